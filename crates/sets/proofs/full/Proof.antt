@@ -1,0 +1,18 @@
+-- `sets::full` meets its contract: a word of ones, shifted down until n are left.
+use native.Mathlib.Omega.{arith}
+use Rattle.sets.specs.Words.Operations.{full-mask}
+use borrow.Author.Needs.{needs}
+use Rattle.sets.proofs.full.Statement.{statement}
+use Rattle.sets.proofs.full.Tie as tie
+
+sub-result : tie.Need-sub-result
+sub-result c = search needs
+
+shr-result : tie.Need-shr-result
+shr-result c = search needs
+
+returns : tie.Need-returns
+returns c = full-mask (c .args .n) (omega arith)
+
+pub full-spec : {M : Type 1} → statement M
+full-spec = tie.close (tie.spec sub-result shr-result returns)

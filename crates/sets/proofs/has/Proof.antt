@@ -1,0 +1,14 @@
+-- `sets::has` meets its contract: the bit is shifted down and the others masked off.
+use Rattle.sets.specs.Words.Operations.{has-mask}
+use borrow.Author.Needs.{needs}
+use Rattle.sets.proofs.has.Statement.{statement}
+use Rattle.sets.proofs.has.Tie as tie
+
+shr-result : tie.Need-shr-result
+shr-result c = search needs
+
+returns : tie.Need-returns
+returns c = has-mask (c .args .s) (c .args .v)
+
+pub has-spec : {M : Type 1} → statement M
+has-spec = tie.close (tie.spec shr-result returns)

@@ -1,0 +1,10 @@
+-- `sets::is_empty` meets its contract.
+use Rattle.sets.specs.Words.Operations.{is-empty-mask}
+use Rattle.sets.proofs.is_empty.Statement.{statement}
+use Rattle.sets.proofs.is_empty.Tie as tie
+
+returns : tie.Need-returns
+returns c = is-empty-mask (c .args .s)
+
+pub is-empty-spec : {M : Type 1} → statement M
+is-empty-spec = tie.close (tie.spec returns)

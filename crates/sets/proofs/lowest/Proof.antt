@@ -1,0 +1,15 @@
+-- `sets::lowest` meets its contract: the count of trailing zeros is below the width.
+use native.Mathlib.Omega.{arith}
+use lib.Count.{trailing-le}
+use Rattle.sets.specs.Words.Operations.{lowest-mask}
+use Rattle.sets.proofs.lowest.Statement.{statement}
+use Rattle.sets.proofs.lowest.Tie as tie
+
+cast-result : tie.Need-cast-result
+cast-result c = omega (arith, trailing-le 64 (c .args .s))
+
+returns : tie.Need-returns
+returns c = lowest-mask (c .args .s) (omega arith) (c .pre)
+
+pub lowest-spec : {M : Type 1} → statement M
+lowest-spec = tie.close (tie.spec cast-result returns)

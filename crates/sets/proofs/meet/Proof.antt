@@ -1,0 +1,10 @@
+-- `sets::meet` meets its contract.
+use Rattle.sets.specs.Words.Operations.{meet-mask}
+use Rattle.sets.proofs.meet.Statement.{statement}
+use Rattle.sets.proofs.meet.Tie as tie
+
+returns : tie.Need-returns
+returns c = meet-mask (c .args .s) (c .args .t)
+
+pub meet-spec : {M : Type 1} → statement M
+meet-spec = tie.close (tie.spec returns)

@@ -1,0 +1,14 @@
+-- `sets::size` meets its contract: a count of ones, at most the width.
+use native.Mathlib.Omega.{arith}
+use Rattle.sets.specs.Words.Operations.{size-mask}
+use Rattle.sets.proofs.size.Statement.{statement}
+use Rattle.sets.proofs.size.Tie as tie
+
+cast-result : tie.Need-cast-result
+cast-result c = omega (arith, size-mask (c .args .s) (omega arith))
+
+returns : tie.Need-returns
+returns c = size-mask (c .args .s) (omega arith)
+
+pub size-spec : {M : Type 1} → statement M
+size-spec = tie.close (tie.spec cast-result returns)

@@ -1,0 +1,151 @@
+// Sets of vertices, and every operation on one. This is the only crate with bit arithmetic: the others
+// touch a set through these functions, and their contracts speak of its mask.
+ghost use mathlib.Core.Path.{_≡_};
+ghost use Prim.Native.Nat.{_-_, _^_, _<_, _≤_};
+ghost use lib.Dec.{eqb, ltb};
+ghost use lib.Bits.{bitAnd, bitOr};
+ghost use lib.ListN.{length, set};
+ghost use Rattle.sets.specs.Set.{has, size, subset, with, minus, without, full};
+ghost use Rattle.sets.specs.Words.{width, mask, masks, Lowest};
+ghost use Rattle.sets.specs.Graph.{row};
+
+// A set of vertices: v is a member where the bit of value 2^v is set.
+pub type Set = u64;
+
+// The most vertices that a set can have.
+pub const WIDTH: usize = 64;
+
+// No vertex.
+pub fn empty() -> Set
+    ensures { λ r. ⌜ mask r ≡ 0 ⌝ }
+{
+    0
+}
+
+// The vertices below n.
+pub fn full(n: usize) -> Set
+    requires { ⌜ (1 ≤ n) × (n ≤ width) ⌝ }
+    ensures { λ r. ⌜ mask r ≡ full n ⌝ }
+{
+    18446744073709551615u64 >> (WIDTH - n)
+}
+
+// The set of v alone.
+pub fn single(v: usize) -> Set
+    requires { ⌜ v < width ⌝ }
+    ensures { λ r. ⌜ mask r ≡ 2 ^ v ⌝ }
+{
+    1u64 << v
+}
+
+// Is v a member of s?
+pub fn has(s: Set, v: usize) -> bool
+    requires { ⌜ v < width ⌝ }
+    ensures { λ r. ⌜ r ≡ has (mask s) v ⌝ }
+{
+    (s >> v) & 1 == 1
+}
+
+// How many members s has.
+pub fn size(s: Set) -> usize
+    ensures { λ r. ⌜ (r ≡ size (mask s)) × (r ≤ width) ⌝ }
+{
+    u64::count_ones(s) as usize
+}
+
+// Has s no member?
+pub fn is_empty(s: Set) -> bool
+    ensures { λ r. ⌜ r ≡ eqb (mask s) 0 ⌝ }
+{
+    s == 0
+}
+
+// Have s and t the same members?
+pub fn same(s: Set, t: Set) -> bool
+    ensures { λ r. ⌜ r ≡ eqb (mask s) (mask t) ⌝ }
+{
+    s == t
+}
+
+// Is every member of s one of t?
+pub fn within(s: Set, t: Set) -> bool
+    ensures { λ r. ⌜ r ≡ subset (mask s) (mask t) ⌝ }
+{
+    s & t == s
+}
+
+// Is every member of s below n?
+pub fn below(s: Set, n: usize) -> bool
+    requires { ⌜ (1 ≤ n) × (n ≤ width) ⌝ }
+    ensures { λ r. ⌜ r ≡ ltb (mask s) (2 ^ n) ⌝ }
+{
+    s <= full(n)
+}
+
+// The members that s and t share.
+pub fn meet(s: Set, t: Set) -> Set
+    ensures { λ r. ⌜ mask r ≡ bitAnd (mask s) (mask t) ⌝ }
+{
+    s & t
+}
+
+// The members of s and those of t.
+pub fn join(s: Set, t: Set) -> Set
+    ensures { λ r. ⌜ mask r ≡ bitOr (mask s) (mask t) ⌝ }
+{
+    s | t
+}
+
+// s less the members of t.
+pub fn minus(s: Set, t: Set) -> Set
+    ensures { λ r. ⌜ mask r ≡ minus (mask s) (mask t) ⌝ }
+{
+    s & !t
+}
+
+// s and one more vertex.
+pub fn with(s: Set, v: usize) -> Set
+    requires { ⌜ v < width ⌝ }
+    ensures { λ r. ⌜ mask r ≡ with (mask s) v ⌝ }
+{
+    s | single(v)
+}
+
+// s and one vertex less.
+pub fn without(s: Set, v: usize) -> Set
+    requires { ⌜ v < width ⌝ }
+    ensures { λ r. ⌜ mask r ≡ without (mask s) v ⌝ }
+{
+    s & !single(v)
+}
+
+// The lowest member of s.
+pub fn lowest(s: Set) -> usize
+    requires { ⌜ 0 < mask s ⌝ }
+    ensures { λ r. ⌜ Lowest (mask s) r ⌝ }
+{
+    u64::trailing_zeros(s) as usize
+}
+
+// s without its lowest member v: the step of a walk through the members.
+pub fn rest(s: Set, v: usize) -> Set
+    requires { ⌜ Lowest (mask s) v ⌝ }
+    ensures { λ r. ⌜ mask r ≡ without (mask s) v ⌝ }
+{
+    s & (s - 1)
+}
+
+// How many sets the words hold.
+pub fn count(words: &[u64]) -> usize
+    ensures { λ r. ⌜ r ≡ length (masks (now (words .entry))) ⌝ }
+{
+    words.len()
+}
+
+// The set at position i: a row of a graph, or a slot.
+pub fn get(words: &[u64], i: usize) -> Set
+    requires { ⌜ i < length (masks (now words)) ⌝ }
+    ensures { λ r. ⌜ mask r ≡ row (masks (now (words .entry))) i ⌝ }
+{
+    words[i]
+}
