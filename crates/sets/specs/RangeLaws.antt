@@ -1,5 +1,4 @@
 -- Laws of ranges, tests and choices over a list.
--- Assumes nothing.
 use Prim.Native.Nat.{ℕ, zero, suc, _+_, _≤_, _<_, zero-le}
 use native.Mathlib.Omega.{arith}
 use native.Mathlib.Decide.{ℕ-discrete}
@@ -39,6 +38,20 @@ or-right false b t = t
 pub test : (b : Bool) → T b ⊎ T (not b)
 test true = inl tt
 test false = inr tt
+
+pub is-true : (b : Bool) → T b → true ≡ b
+is-true true t = refl
+is-true false t = absurd t
+
+pub is-false : (b : Bool) → (T b → ⊥) → false ≡ b
+is-false true f = absurd (f tt)
+is-false false f = refl
+
+pub true-holds : (b : Bool) → b ≡ true → T b
+true-holds b e = subst T (sym e) tt
+
+pub false-fails : (b : Bool) → b ≡ false → T b → ⊥
+false-fails b e t = subst T e t
 
 -- ---- membership
 

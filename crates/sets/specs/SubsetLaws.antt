@@ -5,7 +5,8 @@ use native.Mathlib.Omega.{arith}
 use native.Mathlib.Decide.{ℕ-discrete, decLt}
 use mathlib.Core.Path.{_≡_, ap, subst}
 use mathlib.Core.Logic.{_≢_}
-use lib.Dec.{T, eqb, eqb→eq, eqb-refl}
+use mathlib.Core.Bool.{not}
+use lib.Dec.{T, eqb, eqb→eq, eqb-refl, T-not, not-T}
 use lib.Pow.{pow-pos, pow-mono, pow-lt}
 use lib.Bits.{bitAnd, or-lt}
 use Rattle.sets.specs.Set.{bit, has, In, Sub, subset, with, minus}
@@ -100,3 +101,14 @@ positive s v e = go (decLt 0 s)
     go : Dec (0 < s) → 0 < s
     go (yes l) = l
     go (no nl) = absurd (omega (arith, e, bit-high s v (omega (arith, pow-pos v))))
+
+-- no member, as a test and as a statement
+pub not-in : (s v : ℕ) → T (not (has s v)) → bit s v ≡ 0
+not-in s v t = go (ℕ-discrete (bit s v) 1)
+  where
+    go : Dec (bit s v ≡ 1) → bit s v ≡ 0
+    go (yes e) = absurd (T-not (has s v) t (in-has s v e))
+    go (no ne) = omega (arith, bit-le s v)
+
+pub not-has : (s v : ℕ) → bit s v ≡ 0 → T (not (has s v))
+not-has s v e = not-T (has s v) (λ t. omega (arith, e, has-in s v t))

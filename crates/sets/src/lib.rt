@@ -82,6 +82,13 @@ pub fn below(s: Set, n: usize) -> bool
     s <= full(n)
 }
 
+// Does s come before t in the order of masks?
+pub fn precedes(s: Set, t: Set) -> bool
+    ensures { λ r. ⌜ r ≡ ltb (mask s) (mask t) ⌝ }
+{
+    s < t
+}
+
 // The members that s and t share.
 pub fn meet(s: Set, t: Set) -> Set
     ensures { λ r. ⌜ mask r ≡ bitAnd (mask s) (mask t) ⌝ }
@@ -148,4 +155,12 @@ pub fn get(words: &[u64], i: usize) -> Set
     ensures { λ r. ⌜ mask r ≡ row (masks (now (words .entry))) i ⌝ }
 {
     words[i]
+}
+
+// Stores s at position i.
+pub fn put(words: &mut [u64], i: usize, s: Set)
+    requires { ⌜ i < length (masks (now words)) ⌝ }
+    ensures { λ _. ⌜ masks (now (words .exit)) ≡ set (masks (now (words .entry))) i (mask s) ⌝ }
+{
+    words[i] = s;
 }

@@ -2,11 +2,11 @@
 use Prim.Native.Nat.{ℕ, _+_, _-_, _*_, _/_, _%_, _^_, _≤_, _<_}
 use native.Mathlib.Omega.{arith}
 use mathlib.Core.Path.{_≡_, refl, ap, _∙_}
-use mathlib.Core.List.{List}
+use mathlib.Core.List.{List, _++_}
 use lib.Dec.{eqb, leb, ltb}
 use lib.Bits.{bitAnd, bitOr}
 use lib.Count.{ones, ones-le, trailingZeros}
-use lib.ListN.{length, getD}
+use lib.ListN.{length, getD, set, take, drop}
 use Rattle.sets.specs.Set.{has, size, subset, with, minus, without, full}
 use Rattle.sets.specs.Graph.{row}
 use Rattle.sets.specs.Words.{width, mask, masks, Lowest}
@@ -86,3 +86,25 @@ count-masks ws = refl
 pub get-mask : (ws : List ℕ) (i : ℕ) → mask (getD ws i 0) ≡ row (masks ws) i
 unfolding mask masks row
 get-mask ws i = refl
+
+pub put-masks : (ws : List ℕ) (i s : ℕ) → masks (set ws i s) ≡ set (masks ws) i (mask s)
+unfolding mask masks
+put-masks ws i s = refl
+
+pub precedes-mask : (s t : ℕ) → ltb s t ≡ ltb (mask s) (mask t)
+unfolding mask
+precedes-mask s t = refl
+
+-- ---- parts of lent words
+
+pub take-masks : (n : ℕ) (ws : List ℕ) → masks (take n ws) ≡ take n (masks ws)
+unfolding masks
+take-masks n ws = refl
+
+pub drop-masks : (n : ℕ) (ws : List ℕ) → masks (drop n ws) ≡ drop n (masks ws)
+unfolding masks
+drop-masks n ws = refl
+
+pub append-masks : (vs ws : List ℕ) → masks (vs ++ ws) ≡ masks vs ++ masks ws
+unfolding masks
+append-masks vs ws = refl

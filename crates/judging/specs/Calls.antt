@@ -1,0 +1,83 @@
+-- What each public call of this crate answers, for every input: its causes in document 01's order, and what it finds.
+--
+--   numberOf, valueOf     document 01's number and value of each refusal
+--   refusal               a refusal as a reply
+--   plexReply g k s       the answer to: is s a k-plex?
+--   maximalReply g k s    the answer to: is s a maximal k-plex?
+use Prim.Native.Nat.{ℕ}
+use mathlib.Core.Bool.{Bool, true, false}
+use mathlib.Core.List.{List, [], _∷_, _++_}
+use lib.ListN.{length}
+use Rattle.judging.specs.Plex.{plex, maximal}
+use Rattle.judging.specs.Refusal.{Reply, refused, answered, Cause, firstOf, vertexCause, slackCause, floorCause, graphCauses, setCause}
+use Rattle.judging.specs.declared.Refusal.{Refusal}
+use Rattle.judging.specs.declared.Refusal.the-variants.{Vertices, Slack, Floor, Row, OneWay, Slots, Outside, Line, Room, Bound}
+use Rattle.judging.specs.declared.Checked.{Checked}
+use Rattle.judging.specs.declared.Checked.the-variants.{Passed, Failed}
+use Rattle.judging.specs.declared.Judged.{Judged}
+use Rattle.judging.specs.declared.Judged.the-variants.{Yes, No, Refused}
+
+abbrev pub numberOf : Refusal → ℕ
+numberOf Vertices = 1
+numberOf Slack = 2
+numberOf Floor = 3
+numberOf (Row a) = 4
+numberOf (OneWay a) = 5
+numberOf (Slots m) = 6
+numberOf Outside = 7
+numberOf (Line l) = 8
+numberOf (Room n) = 9
+numberOf Bound = 10
+
+abbrev pub valueOf : Refusal → ℕ
+valueOf Vertices = 0
+valueOf Slack = 0
+valueOf Floor = 0
+valueOf (Row a) = a
+valueOf (OneWay a) = a
+valueOf (Slots m) = m
+valueOf Outside = 0
+valueOf (Line l) = l
+valueOf (Room n) = n
+valueOf Bound = 0
+
+abbrev pub refusal : {A : Type 0} → Refusal → Reply A
+refusal f = refused (numberOf f) (valueOf f)
+
+-- ---- checks of the input that calls share: nothing is found
+
+abbrev pub passed : Reply (Unit {0})
+passed = answered 0 tt
+
+abbrev pub checkedReply : Checked → Reply (Unit {0})
+checkedReply Passed = passed
+checkedReply (Failed f) = refusal f
+
+-- 1, 4, 5
+unfoldable pub graphCheck : List ℕ → List Cause
+graphCheck g = vertexCause (length g) ∷ graphCauses g
+
+-- 1, 2, 4, 5
+unfoldable pub slackCheck : List ℕ → ℕ → List Cause
+slackCheck g k = vertexCause (length g) ∷ slackCause k ∷ graphCauses g
+
+-- 1, 2, 3, 4, 5
+unfoldable pub requestCheck : List ℕ → ℕ → ℕ → List Cause
+requestCheck g k q = vertexCause (length g) ∷ slackCause k ∷ floorCause k q ∷ graphCauses g
+
+-- 1, 2, 4, 5, 7
+unfoldable pub setCheck : List ℕ → ℕ → ℕ → List Cause
+setCheck g k s = slackCheck g k ++ setCause g s ∷ []
+
+-- ---- the public calls
+
+abbrev pub judgedReply : Judged → Reply Bool
+judgedReply Yes = answered 0 true
+judgedReply No = answered 0 false
+judgedReply (Refused f) = refusal f
+
+unfoldable pub plexReply : List ℕ → ℕ → ℕ → Reply Bool
+plexReply g k s = firstOf (setCheck g k s) (answered 0 (plex g k s))
+
+unfoldable pub maximalReply : List ℕ → ℕ → ℕ → Reply Bool
+maximalReply g k s = firstOf (setCheck g k s) (answered 0 (maximal g k s))

@@ -1,0 +1,9 @@
+-- Graphs, k-plexes and refusals: definitions first, then their laws.
+pub mod Graph
+pub mod Plex
+pub mod Refusal
+pub mod Setting
+pub mod Calls
+pub mod GraphLaws
+pub mod PlexLaws
+pub mod SwallowLaws

@@ -1,0 +1,84 @@
+-- Laws of k-plexes: the statement behind the test; a part of a plex is a plex; a plex is maximal where no single vertex can be added.
+use Prim.Native.Nat.{ℕ, zero, suc, _+_, _-_, _*_, _^_, _≤_, _<_, min, max, zero-le, suc-le-suc}
+use native.Mathlib.Nat.{le-refl, le-trans, zero-lt-suc, not-suc-le-zero, lt-of-le-of-lt, two-pow-succ, one-mul, zero-add}
+use lib.Pow.{pow-pos}
+use native.Mathlib.Omega.{arith}
+use native.Mathlib.Decide.{ℕ-discrete, decLe, decLt}
+use mathlib.Core.Path.{_≡_, refl, sym, ap, ap₂, _∙_, subst}
+use mathlib.Core.Logic.{_≢_, _⊎_, inl, inr}
+use mathlib.Core.Bool.{Bool, true, false, not, _&&_, _||_, cond}
+use mathlib.Core.List.{List, [], _∷_}
+use lib.Dec.{T, eqb, leb, ltb, leb→le, le→leb, eqb→eq, eqb-refl, T-not, not-T}
+use lib.Bits.{bitAnd, bitOr, or-shifted}
+use lib.ListN.{length, getD}
+use Rattle.sets.specs.Ranges.{range, all, any, keep}
+use Rattle.sets.specs.Set.{bit, has, In, Sub, size, subset, with, without, minus, setOf, members}
+use Rattle.sets.specs.Graph.{row}
+use Rattle.sets.specs.RangeLaws.{mem-range, range-mem, all-elim, all-intro, any-elim, any-intro, and-left, and-right, both, or-cases, or-left, or-right, test, is-true, is-false}
+use Rattle.sets.specs.BitLaws.{bit-le, bit-and, bit-or, bit-minus, bit-pow-same, bit-pow-other, bit-high}
+use Rattle.sets.specs.SubsetLaws.{sub-refl, sub-trans, sub-antisym, sub-with, with-sub, with-same, with-other, with-below, subset-sub, sub-subset, in-of-sub, sub-of-in, in-below, has-in, in-has}
+use Rattle.sets.specs.SizeLaws.{size-minus, size-or, size-with, size-without, size-mono, size-one, missing-member, sub-size-eq}
+use Rattle.sets.specs.MemberLaws.{set-of-in, set-of-holds, set-of-below, set-of-unique, all-members, members-all, any-members, members-any}
+use Rattle.judging.specs.Graph.{adjacent, degree, missing, Valid}
+use Rattle.judging.specs.Plex.{plex, maximal, Plex, Maximal, unblocked, swallowed}
+use Rattle.judging.specs.GraphLaws.{degree-missing, missing-mono}
+
+pub plex-holds : (g : List ℕ) (k s : ℕ) → T (plex g k s) → Plex g k s
+unfolding plex
+plex-holds g k s t v l e =
+    omega (arith, degree-missing g s v, leb→le (size s) (degree g s v + k) (all-members (λ (u : ℕ). leb (size s) (degree g s u + k)) (length g) s t v l e))
+
+pub plex-test : (g : List ℕ) (k s : ℕ) → Plex g k s → T (plex g k s)
+unfolding plex
+plex-test g k s h =
+    members-all (λ (u : ℕ). leb (size s) (degree g s u + k)) (length g) s (λ v l e.
+    le→leb (size s) (degree g s v + k) (omega (arith, degree-missing g s v, h v l e)))
+
+-- a part of a plex is a plex
+pub hereditary : (g : List ℕ) (k s t : ℕ) → Sub s t → Plex g k t → Plex g k s
+hereditary g k s t h p v l e = le-trans (missing-mono g s t v h) (p v l (in-of-sub s t v h e))
+
+-- ---- maximal plexes
+
+others : List ℕ → ℕ → ℕ → ℕ → Bool
+others g k s t = not (subset s t && plex g k t) || eqb t s
+
+pub maximal-holds : (g : List ℕ) (k s : ℕ) → T (maximal g k s) → Maximal g k s
+unfolding maximal others
+maximal-holds g k s t =
+    let few : T (all (others g k s) (range (2 ^ length g))) = and-right (plex g k s) (all (others g k s) (range (2 ^ length g))) t in
+    (plex-holds g k s (and-left (plex g k s) (all (others g k s) (range (2 ^ length g))) t), λ u l h p. go u h p (or-cases (not (subset s u && plex g k u)) (eqb u s) (all-elim (others g k s) (range (2 ^ length g)) u few (mem-range (2 ^ length g) u l))))
+  where
+    go : (u : ℕ) → Sub s u → Plex g k u → T (not (subset s u && plex g k u)) ⊎ T (eqb u s) → u ≡ s
+    go u h p (inl q) = absurd (T-not (subset s u && plex g k u) q (both (subset s u) (plex g k u) (sub-subset s u h) (plex-test g k u p)))
+    go u h p (inr q) = eqb→eq u s q
+
+pub maximal-test : (g : List ℕ) (k s : ℕ) → Maximal g k s → T (maximal g k s)
+unfolding maximal others
+maximal-test g k s m =
+    both (plex g k s) (all (others g k s) (range (2 ^ length g))) (plex-test g k s (m .0))
+    (all-intro (others g k s) (range (2 ^ length g)) (λ u l. go u (range-mem (2 ^ length g) u l) (test (subset s u && plex g k u))))
+  where
+    go : (u : ℕ) → u < 2 ^ length g → T (subset s u && plex g k u) ⊎ T (not (subset s u && plex g k u)) → T (others g k s u)
+    go u l (inr q) = or-left (not (subset s u && plex g k u)) (eqb u s) q
+    go u l (inl q) =
+        or-right (not (subset s u && plex g k u)) (eqb u s)
+        (subst (λ (x : ℕ). T (eqb u x))
+        (m .1 u l (subset-sub s u (and-left (subset s u) (plex g k u) q)) (plex-holds g k u (and-right (subset s u) (plex g k u) q))) (eqb-refl u))
+
+-- a plex is maximal where no single vertex can be added
+pub maximal-by-one : (g : List ℕ) (k s : ℕ) → Plex g k s
+    → ((v : ℕ) → v < length g → bit s v ≡ 0 → Plex g k (with s v) → ⊥) → Maximal g k s
+maximal-by-one g k s p f = (p, λ t l h q. sym (sub-size-eq s t h (go t l h q (decLe (size t) (size s)))))
+  where
+    go : (t : ℕ) → t < 2 ^ length g → Sub s t → Plex g k t → Dec (size t ≤ size s) → size t ≤ size s
+    go t l h q (yes d) = d
+    go t l h q (no nd) =
+        let w = missing-member s t (omega arith) in
+        absurd (f (w .0) (in-below (length g) t (w .0) l (w .2)) (w .1) (hereditary g k (with s (w .0)) t (with-sub s (w .0) t h (w .2)) q))
+
+-- and only there
+pub one-by-maximal : (g : List ℕ) (k s : ℕ) → s < 2 ^ length g → Maximal g k s
+    → (v : ℕ) → v < length g → bit s v ≡ 0 → Plex g k (with s v) → ⊥
+one-by-maximal g k s b m v l e p =
+    omega (arith, with-same s v, e, ap (λ (x : ℕ). bit x v) (m .1 (with s v) (with-below (length g) s v b l) (sub-with s v) p))

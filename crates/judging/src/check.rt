@@ -1,0 +1,156 @@
+// Checks of the input that the calls share. Each gives the first cause of document 01's table that holds, in its order.
+ghost use mathlib.Core.Path.{_≡_};
+ghost use mathlib.Core.Bool.{not};
+ghost use mathlib.Core.List.{[], _∷_};
+ghost use Prim.Native.Nat.{_*_, _-_, _^_, _<_, _≤_};
+ghost use lib.ListN.{length};
+ghost use Rattle.sets.specs.Words.{mask, masks};
+ghost use Rattle.judging.specs.Refusal.{mostVertices, mostSlack, outside, firstOf, badRow, oneWay, lowestRow, graphCauses};
+ghost use Rattle.judging.specs.Calls.{passed, checkedReply, graphCheck, slackCheck, requestCheck, setCheck};
+ghost use Rattle.judging.specs.Setting.{Sized, LowRows};
+use crate::Checked;
+use crate::Refusal;
+use crate::Request;
+use sets::Set;
+
+// The most vertices, and the most slack.
+pub const MOST_VERTICES: usize = 64;
+
+pub const MOST_SLACK: usize = 32;
+
+// Is n a number of vertices that is accepted?
+pub fn vertices_accepted(n: usize) -> bool
+    ensures { λ r. ⌜ r ≡ not (outside 1 mostVertices n) ⌝ }
+{
+    1 <= n && n <= MOST_VERTICES
+}
+
+// Is k a slack that is accepted?
+pub fn slack_accepted(k: usize) -> bool
+    ensures { λ r. ⌜ r ≡ not (outside 1 mostSlack k) ⌝ }
+{
+    1 <= k && k <= MOST_SLACK
+}
+
+// Is q a floor that is accepted beside the slack k?
+pub fn floor_accepted(k: usize, q: usize) -> bool
+    requires { ⌜ k ≤ mostSlack ⌝ }
+    ensures { λ r. ⌜ r ≡ not (outside (2 * k - 1) mostVertices q) ⌝ }
+{
+    2 * k <= q + 1 && q <= MOST_VERTICES
+}
+
+// Has row a its own bit, or a bit of n or above?
+pub fn is_bad_row(rows: &[u64], a: usize) -> bool
+    requires { ⌜ Sized (masks (now rows)) × (a < length (masks (now rows))) ⌝ }
+    ensures { λ r. ⌜ r ≡ badRow (masks (now (rows .entry))) a ⌝ }
+{
+    let row = sets::get(rows, a);
+    sets::has(row, a) || !sets::below(row, sets::count(rows))
+}
+
+// The lowest row that has its own bit or a bit of n or above; n where there is none.
+pub fn lowest_bad_row(rows: &[u64]) -> usize
+    requires { ⌜ Sized (masks (now rows)) ⌝ }
+    ensures { λ r. ⌜ r ≡ lowestRow (badRow (masks (now (rows .entry)))) (length (masks (now (rows .entry)))) ⌝ }
+{
+    let mut a = 0;
+    while a < sets::count(rows) {
+        if is_bad_row(rows, a) {
+            return a;
+        }
+        a += 1;
+    }
+    a
+}
+
+// The lowest row a that has a b whose row lacks a; n where there is none.
+pub fn lowest_one_way(rows: &[u64]) -> usize
+    requires { ⌜ LowRows (masks (now rows)) ⌝ }
+    ensures { λ r. ⌜ r ≡ lowestRow (oneWay (masks (now (rows .entry)))) (length (masks (now (rows .entry)))) ⌝ }
+{
+    let n = sets::count(rows);
+    let mut a = 0;
+    'rows: while a < n {
+        let mut left = sets::get(rows, a);
+        while !sets::is_empty(left) {
+            let b = sets::lowest(left);
+            if !sets::has(sets::get(rows, b), a) {
+                break 'rows;
+            }
+            left = sets::rest(left, b);
+        }
+        a += 1;
+    }
+    a
+}
+
+// Refusals 4 and 5.
+pub fn check_edges(rows: &[u64]) -> Checked
+    requires { ⌜ Sized (masks (now rows)) ⌝ }
+    ensures { λ r. ⌜ checkedReply r ≡ firstOf (graphCauses (masks (now (rows .entry)))) passed ⌝ }
+{
+    let n = sets::count(rows);
+    let a = lowest_bad_row(rows);
+    if a < n {
+        return Checked::Failed(Refusal::Row(a));
+    }
+    let b = lowest_one_way(rows);
+    if b < n {
+        return Checked::Failed(Refusal::OneWay(b));
+    }
+    Checked::Passed
+}
+
+// Refusals 1, 4 and 5.
+pub fn check_graph(rows: &[u64]) -> Checked
+    ensures { λ r. ⌜ checkedReply r ≡ firstOf (graphCheck (masks (now (rows .entry)))) passed ⌝ }
+{
+    if !vertices_accepted(sets::count(rows)) {
+        return Checked::Failed(Refusal::Vertices);
+    }
+    check_edges(rows)
+}
+
+// Refusals 1, 2, 4 and 5.
+pub fn check_slack(rows: &[u64], slack: usize) -> Checked
+    ensures { λ r. ⌜ checkedReply r ≡ firstOf (slackCheck (masks (now (rows .entry))) slack) passed ⌝ }
+{
+    if !vertices_accepted(sets::count(rows)) {
+        return Checked::Failed(Refusal::Vertices);
+    }
+    if !slack_accepted(slack) {
+        return Checked::Failed(Refusal::Slack);
+    }
+    check_edges(rows)
+}
+
+// Refusals 1, 2, 3, 4 and 5.
+pub fn check_request(rows: &[u64], request: Request) -> Checked
+    ensures { λ r. ⌜ checkedReply r ≡ firstOf (requestCheck (masks (now (rows .entry))) (request .slack) (request .floor)) passed ⌝ }
+{
+    if !vertices_accepted(sets::count(rows)) {
+        return Checked::Failed(Refusal::Vertices);
+    }
+    if !slack_accepted(request.slack) {
+        return Checked::Failed(Refusal::Slack);
+    }
+    if !floor_accepted(request.slack, request.floor) {
+        return Checked::Failed(Refusal::Floor);
+    }
+    check_edges(rows)
+}
+
+// Refusals 1, 2, 4, 5 and 7.
+pub fn check_set(rows: &[u64], slack: usize, s: Set) -> Checked
+    ensures { λ r. ⌜ checkedReply r ≡ firstOf (setCheck (masks (now (rows .entry))) slack (mask s)) passed ⌝ }
+{
+    let checked = check_slack(rows, slack);
+    if let Checked::Failed(f) = checked {
+        return Checked::Failed(f);
+    }
+    if !sets::below(s, sets::count(rows)) {
+        return Checked::Failed(Refusal::Outside);
+    }
+    Checked::Passed
+}

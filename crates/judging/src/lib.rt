@@ -1,0 +1,110 @@
+// The graph: valid tables, refusals, k-plexes and maximal k-plexes, and the calls that judge a set.
+ghost use mathlib.Core.Path.{_≡_};
+ghost use Rattle.sets.specs.Words.{mask, masks};
+ghost use Rattle.judging.specs.Calls.{numberOf, valueOf, judgedReply, plexReply, maximalReply};
+
+pub mod check;
+pub mod plex;
+
+use sets::Set;
+
+// Why a call declines. `numberOf` and `valueOf` in specs/Calls.antt give document 01's number and value.
+pub enum Refusal {
+    Vertices,
+    Slack,
+    Floor,
+    Row(usize),
+    OneWay(usize),
+    Slots(usize),
+    Outside,
+    Line(usize),
+    Room(usize),
+    Bound,
+}
+
+// The outcome of a check of the input.
+pub enum Checked {
+    Passed,
+    Failed(Refusal),
+}
+
+// The answer to a question about a set.
+pub enum Judged {
+    Yes,
+    No,
+    Refused(Refusal),
+}
+
+// What is asked of a graph: the slack k and the floor q.
+pub struct Request {
+    pub slack: usize,
+    pub floor: usize,
+}
+
+// Document 01's number of a refusal.
+pub fn number(refusal: Refusal) -> usize
+    ensures { λ r. ⌜ r ≡ numberOf refusal ⌝ }
+{
+    match refusal {
+        Refusal::Vertices => 1,
+        Refusal::Slack => 2,
+        Refusal::Floor => 3,
+        Refusal::Row(_) => 4,
+        Refusal::OneWay(_) => 5,
+        Refusal::Slots(_) => 6,
+        Refusal::Outside => 7,
+        Refusal::Line(_) => 8,
+        Refusal::Room(_) => 9,
+        Refusal::Bound => 10,
+    }
+}
+
+// The value that document 01 returns with a refusal.
+pub fn value(refusal: Refusal) -> usize
+    ensures { λ r. ⌜ r ≡ valueOf refusal ⌝ }
+{
+    match refusal {
+        Refusal::Row(a) => a,
+        Refusal::OneWay(a) => a,
+        Refusal::Slots(m) => m,
+        Refusal::Line(l) => l,
+        Refusal::Room(n) => n,
+        Refusal::Vertices => 0,
+        Refusal::Slack => 0,
+        Refusal::Floor => 0,
+        Refusal::Outside => 0,
+        Refusal::Bound => 0,
+    }
+}
+
+// Is the set s a k-plex of the graph with these rows, for the slack k?
+// Refusals: 1, 2, 4, 5, 7. Cost: one pass over the table and one over the members.
+pub fn judge_plex(rows: &[u64], slack: usize, s: Set) -> Judged
+    ensures { λ r. ⌜ judgedReply r ≡ plexReply (masks (now (rows .entry))) slack (mask s) ⌝ }
+{
+    let checked = check::check_set(rows, slack, s);
+    if let Checked::Failed(f) = checked {
+        return Judged::Refused(f);
+    }
+    if plex::is_plex(rows, slack, s) {
+        Judged::Yes
+    } else {
+        Judged::No
+    }
+}
+
+// Is the set s a maximal k-plex of the graph with these rows, for the slack k?
+// Refusals: 1, 2, 4, 5, 7. Cost: one pass over the table and two over the vertices.
+pub fn judge_maximal(rows: &[u64], slack: usize, s: Set) -> Judged
+    ensures { λ r. ⌜ judgedReply r ≡ maximalReply (masks (now (rows .entry))) slack (mask s) ⌝ }
+{
+    let checked = check::check_set(rows, slack, s);
+    if let Checked::Failed(f) = checked {
+        return Judged::Refused(f);
+    }
+    if plex::is_maximal(rows, slack, s) {
+        Judged::Yes
+    } else {
+        Judged::No
+    }
+}

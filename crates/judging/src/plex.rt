@@ -1,0 +1,77 @@
+// k-plexes on a valid graph. A set is walked by its lowest member, and nothing is stored: these functions serve the search's inner loop.
+ghost use mathlib.Core.Path.{_≡_};
+ghost use Prim.Native.Nat.{_^_, _<_, _≤_};
+ghost use lib.ListN.{length};
+ghost use Rattle.sets.specs.Words.{width, mask, masks};
+ghost use Rattle.judging.specs.Graph.{missing};
+ghost use Rattle.judging.specs.Plex.{plex, maximal, unblocked, swallowed};
+ghost use Rattle.judging.specs.Setting.{Inside, Judgeable};
+use sets::Set;
+
+// How many members of s v is not adjacent to; a member counts itself.
+pub fn missing(rows: &[u64], s: Set, v: usize) -> usize
+    requires { ⌜ v < length (masks (now rows)) ⌝ }
+    ensures { λ r. ⌜ (r ≡ missing (masks (now (rows .entry))) (mask s) v) × (r ≤ width) ⌝ }
+{
+    sets::size(sets::minus(s, sets::get(rows, v)))
+}
+
+// Is s a k-plex?
+pub fn is_plex(rows: &[u64], k: usize, s: Set) -> bool
+    requires { ⌜ Inside (masks (now rows)) (mask s) ⌝ }
+    ensures { λ r. ⌜ r ≡ plex (masks (now (rows .entry))) k (mask s) ⌝ }
+{
+    let mut left = s;
+    while !sets::is_empty(left) {
+        let v = sets::lowest(left);
+        if k < missing(rows, s, v) {
+            return false;
+        }
+        left = sets::rest(left, v);
+    }
+    true
+}
+
+// The vertices outside s that are adjacent to each member of s that misses k or more of s.
+pub fn unblocked(rows: &[u64], k: usize, s: Set) -> Set
+    requires { ⌜ Inside (masks (now rows)) (mask s) ⌝ }
+    ensures { λ r. ⌜ mask r ≡ unblocked (masks (now (rows .entry))) k (mask s) ⌝ }
+{
+    let mut open = sets::minus(sets::full(sets::count(rows)), s);
+    let mut left = s;
+    while !sets::is_empty(left) {
+        let v = sets::lowest(left);
+        if k <= missing(rows, s, v) {
+            open = sets::meet(open, sets::get(rows, v));
+        }
+        left = sets::rest(left, v);
+    }
+    open
+}
+
+// Is there a vertex outside s that can be added to every k-plex inside s?
+pub fn is_swallowed(rows: &[u64], k: usize, s: Set) -> bool
+    requires { ⌜ Inside (masks (now rows)) (mask s) ⌝ }
+    ensures { λ r. ⌜ r ≡ swallowed (masks (now (rows .entry))) k (mask s) ⌝ }
+{
+    let mut left = unblocked(rows, k, s);
+    while !sets::is_empty(left) {
+        let x = sets::lowest(left);
+        if missing(rows, s, x) < k {
+            return true;
+        }
+        left = sets::rest(left, x);
+    }
+    false
+}
+
+// Is s a maximal k-plex?
+pub fn is_maximal(rows: &[u64], k: usize, s: Set) -> bool
+    requires { ⌜ Judgeable (masks (now rows)) (mask s) ⌝ }
+    ensures { λ r. ⌜ r ≡ maximal (masks (now (rows .entry))) k (mask s) ⌝ }
+{
+    if !is_plex(rows, k, s) {
+        return false;
+    }
+    !is_swallowed(rows, k, s)
+}
