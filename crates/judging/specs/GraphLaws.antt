@@ -1,26 +1,17 @@
 -- Laws of degrees and non-neighbours: they add up to the size, grow with the set, and change by one vertex more.
-use Prim.Native.Nat.{ℕ, zero, suc, _+_, _-_, _*_, _^_, _≤_, _<_, min, max, zero-le, suc-le-suc}
-use native.Mathlib.Nat.{le-refl, le-trans, zero-lt-suc, not-suc-le-zero, lt-of-le-of-lt, two-pow-succ, one-mul, zero-add}
-use lib.Pow.{pow-pos}
+use Prim.Native.Nat.{ℕ, suc, _+_, _≤_}
 use native.Mathlib.Omega.{arith}
-use native.Mathlib.Decide.{ℕ-discrete, decLe, decLt}
-use mathlib.Core.Path.{_≡_, refl, sym, ap, ap₂, _∙_, subst}
-use mathlib.Core.Logic.{_≢_, _⊎_, inl, inr}
-use mathlib.Core.Bool.{Bool, true, false, not, _&&_, _||_, cond}
-use mathlib.Core.List.{List, [], _∷_}
-use lib.Dec.{T, eqb, leb, ltb, leb→le, le→leb, eqb→eq, eqb-refl, T-not, not-T}
-use lib.Bits.{bitAnd, bitOr, or-shifted}
-use lib.ListN.{length, getD}
-use Rattle.sets.specs.Ranges.{range, all, any, keep}
-use Rattle.sets.specs.Set.{bit, has, In, Sub, size, subset, with, without, minus, setOf, members}
+use native.Mathlib.Decide.{ℕ-discrete}
+use mathlib.Core.Path.{_≡_, ap, subst}
+use mathlib.Core.List.{List}
+use lib.Dec.{T}
+use lib.Bits.{bitAnd}
+use Rattle.sets.specs.Set.{bit, In, Sub, size, with, minus}
 use Rattle.sets.specs.Graph.{row}
-use Rattle.sets.specs.RangeLaws.{mem-range, range-mem, all-elim, all-intro, any-elim, any-intro, and-left, and-right, both, or-cases, or-left, or-right, test, is-true, is-false}
-use Rattle.sets.specs.BitLaws.{ext, bit-le, bit-and, bit-or, bit-minus, bit-pow-same, bit-pow-other, bit-high}
-use Rattle.sets.specs.SubsetLaws.{sub-refl, sub-trans, sub-antisym, sub-with, with-sub, with-same, with-other, with-below, subset-sub, sub-subset, in-of-sub, sub-of-in, in-below, has-in, in-has}
-use Rattle.sets.specs.SizeLaws.{size-minus, size-or, size-with, size-without, size-mono, size-one, missing-member, sub-size-eq}
-use Rattle.sets.specs.MemberLaws.{set-of-in, set-of-holds, set-of-below, set-of-unique, all-members, members-all, any-members, members-any}
-use Rattle.judging.specs.Graph.{adjacent, degree, missing, Valid}
-use Rattle.judging.specs.Plex.{plex, maximal, Plex, Maximal, unblocked, swallowed}
+use Rattle.sets.specs.BitLaws.{ext, bit-le, bit-and, bit-minus}
+use Rattle.sets.specs.SubsetLaws.{with-same, with-other, has-in, in-has}
+use Rattle.sets.specs.SizeLaws.{size-minus, size-with, size-mono}
+use Rattle.judging.specs.Graph.{adjacent, degree, missing}
 
 -- the members of s, adjacent to a or not
 pub degree-missing : (g : List ℕ) (s a : ℕ) → degree g s a + missing g s a ≡ size s

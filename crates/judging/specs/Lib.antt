@@ -7,3 +7,6 @@ pub mod Calls
 pub mod GraphLaws
 pub mod PlexLaws
 pub mod SwallowLaws
+pub mod RefusalLaws
+pub mod JudgeLaws
+pub mod CallLaws

@@ -1,26 +1,22 @@
 -- Laws of k-plexes: the statement behind the test; a part of a plex is a plex; a plex is maximal where no single vertex can be added.
-use Prim.Native.Nat.{ℕ, zero, suc, _+_, _-_, _*_, _^_, _≤_, _<_, min, max, zero-le, suc-le-suc}
-use native.Mathlib.Nat.{le-refl, le-trans, zero-lt-suc, not-suc-le-zero, lt-of-le-of-lt, two-pow-succ, one-mul, zero-add}
-use lib.Pow.{pow-pos}
+use Prim.Native.Nat.{ℕ, _+_, _^_, _≤_, _<_}
+use native.Mathlib.Nat.{le-trans}
 use native.Mathlib.Omega.{arith}
-use native.Mathlib.Decide.{ℕ-discrete, decLe, decLt}
-use mathlib.Core.Path.{_≡_, refl, sym, ap, ap₂, _∙_, subst}
-use mathlib.Core.Logic.{_≢_, _⊎_, inl, inr}
-use mathlib.Core.Bool.{Bool, true, false, not, _&&_, _||_, cond}
-use mathlib.Core.List.{List, [], _∷_}
-use lib.Dec.{T, eqb, leb, ltb, leb→le, le→leb, eqb→eq, eqb-refl, T-not, not-T}
-use lib.Bits.{bitAnd, bitOr, or-shifted}
-use lib.ListN.{length, getD}
-use Rattle.sets.specs.Ranges.{range, all, any, keep}
-use Rattle.sets.specs.Set.{bit, has, In, Sub, size, subset, with, without, minus, setOf, members}
-use Rattle.sets.specs.Graph.{row}
-use Rattle.sets.specs.RangeLaws.{mem-range, range-mem, all-elim, all-intro, any-elim, any-intro, and-left, and-right, both, or-cases, or-left, or-right, test, is-true, is-false}
-use Rattle.sets.specs.BitLaws.{bit-le, bit-and, bit-or, bit-minus, bit-pow-same, bit-pow-other, bit-high}
-use Rattle.sets.specs.SubsetLaws.{sub-refl, sub-trans, sub-antisym, sub-with, with-sub, with-same, with-other, with-below, subset-sub, sub-subset, in-of-sub, sub-of-in, in-below, has-in, in-has}
-use Rattle.sets.specs.SizeLaws.{size-minus, size-or, size-with, size-without, size-mono, size-one, missing-member, sub-size-eq}
-use Rattle.sets.specs.MemberLaws.{set-of-in, set-of-holds, set-of-below, set-of-unique, all-members, members-all, any-members, members-any}
-use Rattle.judging.specs.Graph.{adjacent, degree, missing, Valid}
-use Rattle.judging.specs.Plex.{plex, maximal, Plex, Maximal, unblocked, swallowed}
+use native.Mathlib.Decide.{decLe}
+use mathlib.Core.Path.{_≡_, sym, ap, subst}
+use mathlib.Core.Logic.{_⊎_, inl, inr}
+use mathlib.Core.Bool.{Bool, not, _&&_, _||_}
+use mathlib.Core.List.{List}
+use lib.Dec.{T, eqb, leb, leb→le, le→leb, eqb→eq, eqb-refl, T-not}
+use lib.ListN.{length}
+use Rattle.sets.specs.Ranges.{range, all}
+use Rattle.sets.specs.Set.{bit, Sub, size, subset, with}
+use Rattle.sets.specs.RangeLaws.{mem-range, range-mem, all-elim, all-intro, and-left, and-right, both, or-cases, or-left, or-right, test}
+use Rattle.sets.specs.SubsetLaws.{sub-with, with-sub, with-same, with-below, subset-sub, sub-subset, in-of-sub, in-below}
+use Rattle.sets.specs.SizeLaws.{missing-member, sub-size-eq}
+use Rattle.sets.specs.MemberLaws.{all-members, members-all}
+use Rattle.judging.specs.Graph.{degree}
+use Rattle.judging.specs.Plex.{plex, maximal, Plex, Maximal}
 use Rattle.judging.specs.GraphLaws.{degree-missing, missing-mono}
 
 pub plex-holds : (g : List ℕ) (k s : ℕ) → T (plex g k s) → Plex g k s

@@ -1,25 +1,24 @@
 -- A vertex that no saturated member of a set blocks can be added to every plex inside the set; so a plex is maximal exactly if it is not swallowed.
-use Prim.Native.Nat.{ℕ, suc, _+_, _^_, _≤_, _<_}
-use native.Mathlib.Nat.{le-trans}
+use Prim.Native.Nat.{ℕ, _^_, _≤_, _<_}
 use native.Mathlib.Omega.{arith}
 use native.Mathlib.Decide.{ℕ-discrete, decLt}
-use mathlib.Core.Path.{_≡_, sym, subst}
+use mathlib.Core.Path.{_≡_, subst}
 use mathlib.Core.Bool.{Bool, true, false, not, _&&_, _||_}
 use mathlib.Core.Logic.{_⊎_, inl, inr}
 use mathlib.Core.List.{List}
-use lib.Dec.{T, ltb, ltb→lt, lt→ltb, T-not, not-T}
+use lib.Dec.{T, ltb, ltb→lt, lt→ltb}
 use lib.ListN.{length}
 use Rattle.sets.specs.Ranges.{all}
 use Rattle.sets.specs.Set.{bit, has, In, Sub, with, members}
 use Rattle.sets.specs.Graph.{row}
-use Rattle.sets.specs.RangeLaws.{and-left, and-right, both, or-cases, or-left, or-right, is-true, is-false, false-fails}
+use Rattle.sets.specs.RangeLaws.{and-left, and-right, both, or-cases, or-left, or-right, is-true, is-false}
 use Rattle.sets.specs.BitLaws.{bit-le}
-use Rattle.sets.specs.SubsetLaws.{sub-refl, with-other, with-same, sub-with, in-of-sub, in-below, has-in, in-has, not-has, not-in}
-use Rattle.sets.specs.MemberLaws.{set-of-in, set-of-holds, all-members, members-all, any-members, members-any}
+use Rattle.sets.specs.SubsetLaws.{sub-refl, with-other, with-same, sub-with, in-of-sub, not-has, not-in}
+use Rattle.sets.specs.MemberLaws.{set-of-below, set-of-in, set-of-holds, all-members, members-all, any-members, members-any}
 use Rattle.judging.specs.Graph.{adjacent, missing, Valid}
-use Rattle.judging.specs.Plex.{plex, maximal, Plex, Maximal, unblocked, swallowed}
+use Rattle.judging.specs.Plex.{maximal, Plex, Maximal, unblocked, swallowed}
 use Rattle.judging.specs.GraphLaws.{missing-mono, missing-with, adjacent-in, in-adjacent}
-use Rattle.judging.specs.PlexLaws.{hereditary, maximal-by-one, one-by-maximal, maximal-holds, maximal-test}
+use Rattle.judging.specs.PlexLaws.{maximal-by-one, one-by-maximal, maximal-holds, maximal-test}
 
 module _ (g : List ℕ) (k : ℕ) where
   unblocks : ℕ → ℕ → ℕ → Bool
@@ -31,6 +30,10 @@ module _ (g : List ℕ) (k : ℕ) where
   -- x is no member of s, and a member that misses k or more of s is adjacent to x
   abbrev pub Unblocked : ℕ → ℕ → Type 0
   Unblocked s x = (bit s x ≡ 0) × ((v : ℕ) → v < length g → In v s → k ≤ missing g s v → In x (row g v))
+
+  pub unblocked-below : (s : ℕ) → unblocked g k s < 2 ^ length g
+  unfolding unblocked unblocks stays-out
+  unblocked-below s = set-of-below (stays-out s) (length g)
 
   pub unblocked-holds : (s x : ℕ) → In x (unblocked g k s) → Unblocked s x
   unfolding unblocked unblocks stays-out

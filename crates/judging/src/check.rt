@@ -1,8 +1,7 @@
 // Checks of the input that the calls share. Each gives the first cause of document 01's table that holds, in its order.
 ghost use mathlib.Core.Path.{_≡_};
 ghost use mathlib.Core.Bool.{not};
-ghost use mathlib.Core.List.{[], _∷_};
-ghost use Prim.Native.Nat.{_*_, _-_, _^_, _<_, _≤_};
+ghost use Prim.Native.Nat.{_*_, _-_, _<_, _≤_};
 ghost use lib.ListN.{length};
 ghost use Rattle.sets.specs.Words.{mask, masks};
 ghost use Rattle.judging.specs.Refusal.{mostVertices, mostSlack, outside, firstOf, badRow, oneWay, lowestRow, graphCauses};
@@ -18,26 +17,33 @@ pub const MOST_VERTICES: usize = 64;
 
 pub const MOST_SLACK: usize = 32;
 
+// Is n one of lo to hi?
+fn is_between(lo: usize, hi: usize, n: usize) -> bool
+    ensures { λ r. ⌜ r ≡ not (outside lo hi n) ⌝ }
+{
+    lo <= n && n <= hi
+}
+
 // Is n a number of vertices that is accepted?
 pub fn vertices_accepted(n: usize) -> bool
     ensures { λ r. ⌜ r ≡ not (outside 1 mostVertices n) ⌝ }
 {
-    1 <= n && n <= MOST_VERTICES
+    is_between(1, MOST_VERTICES, n)
 }
 
 // Is k a slack that is accepted?
 pub fn slack_accepted(k: usize) -> bool
     ensures { λ r. ⌜ r ≡ not (outside 1 mostSlack k) ⌝ }
 {
-    1 <= k && k <= MOST_SLACK
+    is_between(1, MOST_SLACK, k)
 }
 
 // Is q a floor that is accepted beside the slack k?
 pub fn floor_accepted(k: usize, q: usize) -> bool
-    requires { ⌜ k ≤ mostSlack ⌝ }
+    requires { ⌜ (1 ≤ k) × (k ≤ mostSlack) ⌝ }
     ensures { λ r. ⌜ r ≡ not (outside (2 * k - 1) mostVertices q) ⌝ }
 {
-    2 * k <= q + 1 && q <= MOST_VERTICES
+    is_between(2 * k - 1, MOST_VERTICES, q)
 }
 
 // Has row a its own bit, or a bit of n or above?

@@ -1,6 +1,6 @@
 // k-plexes on a valid graph. A set is walked by its lowest member, and nothing is stored: these functions serve the search's inner loop.
 ghost use mathlib.Core.Path.{_≡_};
-ghost use Prim.Native.Nat.{_^_, _<_, _≤_};
+ghost use Prim.Native.Nat.{_<_, _≤_};
 ghost use lib.ListN.{length};
 ghost use Rattle.sets.specs.Words.{width, mask, masks};
 ghost use Rattle.judging.specs.Graph.{missing};
@@ -41,10 +41,10 @@ pub fn unblocked(rows: &[u64], k: usize, s: Set) -> Set
     let mut left = s;
     while !sets::is_empty(left) {
         let v = sets::lowest(left);
+        left = sets::rest(left, v);
         if k <= missing(rows, s, v) {
             open = sets::meet(open, sets::get(rows, v));
         }
-        left = sets::rest(left, v);
     }
     open
 }

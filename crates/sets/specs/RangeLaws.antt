@@ -7,7 +7,7 @@ use mathlib.Core.Logic.{_⊎_, inl, inr}
 use mathlib.Core.Bool.{Bool, true, false, not, _&&_, _||_, cond}
 use mathlib.Core.List.{List, [], _∷_, List·Memᴰ, List·Memᴰ·head, List·Memᴰ·tail, List·Memᴰ·cases-cons, List·Memᴰ·not-nil}
 use lib.Dec.{T}
-use Rattle.sets.specs.Ranges.{from, range, all, any, keep}
+use Rattle.sets.specs.Ranges.{from, range, first, all, any, keep}
 
 -- ---- conjunction and disjunction of tests
 
@@ -140,3 +140,32 @@ mem-keep p (x ∷ xs) v m t = go (p x) refl (List·Memᴰ·cases-cons m) (λ k. 
     go true e (inr k) r = List·Memᴰ·tail (r k)
     go false e (inl q) r = absurd (subst T (ap p q ∙ e) t)
     go false e (inr k) r = r k
+
+-- ---- the first element that passes
+
+-- where no element passes, the first that passes is the default
+pub first-none : (p : ℕ → Bool) (d : ℕ) (xs : List ℕ) → ((x : ℕ) → Mem x xs → x < d) → (first p d xs < d → ⊥) → (x : ℕ) → Mem x xs → T (p x) → ⊥
+unfolding first
+first-none p d [] h f x m t = List·Memᴰ·not-nil m
+first-none p d (y ∷ ys) h f x m t =
+    go (p y) refl f (List·Memᴰ·cases-cons m) (λ k z. first-none p d ys (λ w l. h w (List·Memᴰ·tail l)) k x z t)
+  where
+    go : (b : Bool) → p y ≡ b → (cond b y (first p d ys) < d → ⊥) → (x ≡ y) ⊎ Mem x ys → ((first p d ys < d → ⊥) → Mem x ys → ⊥) → ⊥
+    go true e k q r = k (h y (List·Memᴰ·head refl))
+    go false e k (inl z) r = subst T (ap p z ∙ e) t
+    go false e k (inr z) r = r k z
+
+first-from : (p : ℕ → Bool) (d i m a : ℕ) → i ≤ a → a ≤ i + m → ((w : ℕ) → i ≤ w → w < a → p w ≡ false) → (a < i + m → p a ≡ true) → (a ≡ i + m → d ≡ a)
+    → first p d (from i m) ≡ a
+unfolding first from
+first-from p d i zero a h k f t e = e (omega arith)
+first-from p d i (suc m) a h k f t e = go (ℕ-discrete i a) (λ l. first-from p d (suc i) m a l (omega arith) (λ w q. f w (omega arith)) (λ q. t (omega arith)) (λ q. e (omega arith)))
+  where
+    go : Dec (i ≡ a) → (suc i ≤ a → first p d (from (suc i) m) ≡ a) → cond (p i) i (first p d (from (suc i) m)) ≡ a
+    go (yes q) r = ap (λ (b : Bool). cond b i (first p d (from (suc i) m))) (ap p q ∙ t (omega arith)) ∙ q
+    go (no nq) r = ap (λ (b : Bool). cond b i (first p d (from (suc i) m))) (f i (omega arith) (omega arith)) ∙ r (omega arith)
+
+-- the first number of a range that passes, or the range's end
+pub first-at : (p : ℕ → Bool) (n a : ℕ) → a ≤ n → ((w : ℕ) → w < a → p w ≡ false) → (a < n → p a ≡ true) → first p n (range n) ≡ a
+unfolding range
+first-at p n a h f t = first-from p n 0 n a zero-le (omega arith) (λ w l q. f w q) (λ q. t (omega arith)) (λ q. omega arith)

@@ -23,10 +23,10 @@ size-sum (suc n) s h =
 
 -- ---- sizes of differences, intersections and unions
 
-and-below : (n a b : ℕ) → a < 2 ^ n → bitAnd a b < 2 ^ n
+pub and-below : (n a b : ℕ) → a < 2 ^ n → bitAnd a b < 2 ^ n
 and-below n a b h = lt-of-le-of-lt (and-le-l a b) h
 
-minus-below : (n a b : ℕ) → a < 2 ^ n → minus a b < 2 ^ n
+pub minus-below : (n a b : ℕ) → a < 2 ^ n → minus a b < 2 ^ n
 unfolding minus
 minus-below n a b h = lt-of-le-of-lt (sub-le a (bitAnd a b)) h
 

@@ -1,0 +1,15 @@
+-- `judging::check::is_between` meets its contract.
+use mathlib.Core.Path.{_∙_}
+use borrow.Author.Tests.{lt-leb}
+use Rattle.judging.specs.JudgeLaws.{above-low, below-low}
+use Rattle.judging.proofs.check.is_between.Statement.{statement}
+use Rattle.judging.proofs.check.is_between.Tie as tie
+
+returns : tie.Need-returns
+returns c = above-low (c .before .args .lo) (c .before .args .hi) (c .before .args .n) (c .if1 .taken)
+
+returns-2 : tie.Need-returns-2
+returns-2 c = lt-leb (c .before .args .lo) (c .before .args .n) (c .if1 .left) ∙ below-low (c .before .args .lo) (c .before .args .hi) (c .before .args .n) (c .if1 .left)
+
+pub is-between-spec : {M : Type 1} → statement M
+is-between-spec = tie.close (tie.spec returns returns-2)

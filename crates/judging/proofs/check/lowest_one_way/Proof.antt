@@ -1,0 +1,117 @@
+-- `judging::check::lowest_one_way` meets its contract: no row passed has a one-way link, and in the present row each vertex passed is answered.
+use Prim.Native.Nat.{ℕ, _-_, _≤_, _<_}
+use native.Mathlib.Omega.{arith}
+use mathlib.Core.Path.{_≡_, sym, ap, subst, _∙_}
+use mathlib.Core.Bool.{true, false}
+use borrow.Author.Count.{below-none, below-more}
+use borrow.Author.Tests.{not-true, not-false}
+use denote.Ref.{now}
+use lib.ListN.{length}
+use Rattle.sets.specs.Set.{has}
+use Rattle.sets.specs.Graph.{row}
+use Rattle.sets.specs.Words.{mask, masks}
+use Rattle.sets.specs.RangeLaws.{first-at}
+use Rattle.sets.specs.WalkLaws.{Walked, walk-none, walk-next, walk-all, walk-falls, walk-member, walk-below, walk-goes-on, walk-over}
+use Rattle.judging.specs.Refusal.{oneWay, lowestRow}
+use Rattle.judging.specs.JudgeLaws.{one-way-found, one-way-none}
+use Rattle.judging.proofs.check.lowest_one_way.Statement.{statement}
+use Rattle.judging.proofs.check.lowest_one_way.Tie as tie
+
+abbrev Inv-loop : tie.InvT-loop
+Inv-loop rows n a left₀ left = Walked (λ (b : ℕ). has (row (masks rows) b) a ≡ true) (row (masks rows) a) (mask left)
+
+abbrev μ-loop : tie.MeasureT-loop
+μ-loop rows n a left₀ left = mask left
+
+abbrev Inv-rows : tie.InvT-rows
+Inv-rows rows n a₀ a = (a ≤ length (masks rows)) × ((w : ℕ) → w < a → oneWay (masks rows) w ≡ false)
+
+abbrev μ-rows : tie.MeasureT-rows
+μ-rows rows n a₀ a = length (masks rows) - a
+
+count-requires : tie.Need-count-requires Inv-loop μ-loop Inv-rows μ-rows
+count-requires c κs = tt
+
+rows-holds : tie.Need-rows-holds Inv-loop μ-loop Inv-rows μ-rows
+rows-holds c = (omega arith, below-none (λ (w : ℕ). oneWay (masks (now (c .before .before .args .rows))) w ≡ false))
+
+get-requires : tie.Need-get-requires Inv-loop μ-loop Inv-rows μ-rows
+get-requires c κs = omega (arith, c .rows-test .taken, c .before .before .count .ensures)
+
+loop-holds : tie.Need-loop-holds Inv-loop μ-loop Inv-rows μ-rows
+loop-holds c = subst (Walked (λ (b : ℕ). has (row (masks (now (c .before .before .before .before .before .args .rows))) b) (c .before .before .rows .a) ≡ true) (row (masks (now (c .before .before .before .before .before .args .rows))) (c .before .before .rows .a))) (sym (c .get .ensures)) (walk-none (λ (b : ℕ). has (row (masks (now (c .before .before .before .before .before .args .rows))) b) (c .before .before .rows .a) ≡ true) (row (masks (now (c .before .before .before .before .before .args .rows))) (c .before .before .rows .a)))
+
+is-empty-requires : tie.Need-is-empty-requires Inv-loop μ-loop Inv-rows μ-rows
+is-empty-requires c κs = tt
+
+lowest-requires : tie.Need-lowest-requires Inv-loop μ-loop Inv-rows μ-rows
+lowest-requires c κs = walk-goes-on (c .before .is-empty .result) (mask (c .before .before .loop .left)) (c .before .is-empty .ensures) (c .if1 .taken)
+
+get-requires-2 : tie.Need-get-requires-2 Inv-loop μ-loop Inv-rows μ-rows
+get-requires-2 c κs = walk-below (length (masks (now (c .before .before .before .before .before .before .before .before .before .args .rows)))) (row (masks (now (c .before .before .before .before .before .before .before .before .before .args .rows))) (c .before .before .before .before .before .before .rows .a)) (mask (c .before .before .before .loop .left)) (c .lowest .result) (c .before .before .before .before .before .before .before .before .before .pre .low (c .before .before .before .before .before .before .rows .a) (omega (arith, c .before .before .before .before .before .rows-test .taken, c .before .before .before .before .before .before .before .count .ensures))) (c .before .before .before .loop .inv .part) (c .lowest .ensures)
+
+has-requires : tie.Need-has-requires Inv-loop μ-loop Inv-rows μ-rows
+has-requires c κs = omega (arith, c .before .before .before .before .before .before .rows-test .taken, c .before .before .before .before .before .before .before .before .count .ensures, c .before .before .before .before .before .before .before .before .before .before .pre .most)
+
+rest-requires : tie.Need-rest-requires Inv-loop μ-loop Inv-rows μ-rows
+rest-requires c κs = c .before .before .before .lowest .ensures
+
+loop-less : tie.Need-loop-less Inv-loop μ-loop Inv-rows μ-rows
+loop-less c = walk-falls (mask (c .before .before .before .before .before .before .before .loop .left)) (c .before .before .before .before .lowest .result) (mask (c .rest .result)) (c .before .before .before .before .lowest .ensures) (c .rest .ensures)
+
+loop-again : tie.Need-loop-again Inv-loop μ-loop Inv-rows μ-rows
+loop-again c =
+    walk-next (λ (b : ℕ). has (row (masks (now (c .before .before .before .before .before .before .before .before .before .before .before .before .before .args .rows))) b) (c .before .before .before .before .before .before .before .before .before .before .rows .a) ≡ true) (row (masks (now (c .before .before .before .before .before .before .before .before .before .before .before .before .before .args .rows))) (c .before .before .before .before .before .before .before .before .before .before .rows .a)) (mask (c .before .before .before .before .before .before .before .loop .left)) (c .before .before .before .before .lowest .result) (mask (c .rest .result)) (c .rest .ensures) (c .before .before .before .before .before .before .before .loop .inv)
+    (ap (λ (s : ℕ). has s (c .before .before .before .before .before .before .before .before .before .before .rows .a)) (sym (c .before .before .before .get2 .ensures)) ∙ sym (c .before .before .has .ensures) ∙ not-false (c .before .before .has .result) (c .before .if2 .left))
+
+add-a : tie.Need-add-a Inv-loop μ-loop Inv-rows μ-rows
+add-a c = omega (arith, c .before .before .before .before .rows-test .taken, c .before .before .before .before .before .before .count .ensures, c .before .before .before .before .before .before .before .before .pre .most)
+
+rows-less : tie.Need-rows-less Inv-loop μ-loop Inv-rows μ-rows
+rows-less c = omega (arith, c .before .before .before .before .rows-test .taken, c .before .before .before .before .before .before .count .ensures)
+
+rows-again : tie.Need-rows-again Inv-loop μ-loop Inv-rows μ-rows
+rows-again c = (
+  omega (arith, c .before .before .before .before .rows-test .taken, c .before .before .before .before .before .before .count .ensures),
+  below-more (λ (w : ℕ). oneWay (masks (now (c .before .before .before .before .before .before .before .before .args .rows))) w ≡ false) (c .before .before .before .before .before .rows .a) (c .before .before .before .before .before .rows .inv .1)
+      (one-way-none (masks (now (c .before .before .before .before .before .before .before .before .args .rows))) (c .before .before .before .before .before .rows .a)
+      (walk-all (λ (b : ℕ). has (row (masks (now (c .before .before .before .before .before .before .before .before .args .rows))) b) (c .before .before .before .before .before .rows .a) ≡ true) (row (masks (now (c .before .before .before .before .before .before .before .before .args .rows))) (c .before .before .before .before .before .rows .a)) (mask (c .before .before .loop .left)) (walk-over (c .before .is-empty .result) (mask (c .before .before .loop .left)) (c .before .is-empty .ensures) (c .if1 .left)) (c .before .before .loop .inv))),
+)
+
+returns : tie.Need-returns Inv-loop μ-loop Inv-rows μ-rows
+unfolding lowestRow
+returns c = sym (first-at (oneWay (masks (now (c .before .before .before .before .args .rows)))) (length (masks (now (c .before .before .before .before .args .rows)))) (c .before .rows .a) (c .before .rows .inv .0) (c .before .rows .inv .1) (λ l. absurd (omega (arith, c .rows-test .left, c .before .before .count .ensures))))
+
+returns-2 : tie.Need-returns-2 Inv-loop μ-loop Inv-rows μ-rows
+unfolding lowestRow
+returns-2 c =
+    sym (first-at (oneWay (masks (now (c .before .before .before .before .before .before .before .before .before .before .before .before .args .rows)))) (length (masks (now (c .before .before .before .before .before .before .before .before .before .before .before .before .args .rows)))) (c .before .before .before .before .before .before .before .before .before .rows .a) (c .before .before .before .before .before .before .before .before .before .rows .inv .0) (c .before .before .before .before .before .before .before .before .before .rows .inv .1) (λ l.
+    one-way-found (masks (now (c .before .before .before .before .before .before .before .before .before .before .before .before .args .rows))) (c .before .before .before .before .before .before .before .before .before .rows .a) (c .before .before .before .lowest .result)
+    (walk-below (length (masks (now (c .before .before .before .before .before .before .before .before .before .before .before .before .args .rows)))) (row (masks (now (c .before .before .before .before .before .before .before .before .before .before .before .before .args .rows))) (c .before .before .before .before .before .before .before .before .before .rows .a)) (mask (c .before .before .before .before .before .before .loop .left)) (c .before .before .before .lowest .result) (c .before .before .before .before .before .before .before .before .before .before .before .before .pre .low (c .before .before .before .before .before .before .before .before .before .rows .a) l) (c .before .before .before .before .before .before .loop .inv .part) (c .before .before .before .lowest .ensures))
+    (walk-member (row (masks (now (c .before .before .before .before .before .before .before .before .before .before .before .before .args .rows))) (c .before .before .before .before .before .before .before .before .before .rows .a)) (mask (c .before .before .before .before .before .before .loop .left)) (c .before .before .before .lowest .result) (c .before .before .before .before .before .before .loop .inv .part) (c .before .before .before .lowest .ensures))
+    (ap (λ (s : ℕ). has s (c .before .before .before .before .before .before .before .before .before .rows .a)) (sym (c .before .before .get2 .ensures)) ∙ sym (c .before .has .ensures) ∙ not-true (c .before .has .result) (c .if2 .taken))))
+
+pub lowest-one-way-spec : {M : Type 1} → statement M
+lowest-one-way-spec =
+    tie.close
+    (tie.spec
+    Inv-loop
+    μ-loop
+    Inv-rows
+    μ-rows
+    count-requires
+    rows-holds
+    get-requires
+    loop-holds
+    is-empty-requires
+    lowest-requires
+    get-requires-2
+    has-requires
+    rest-requires
+    loop-less
+    loop-again
+    add-a
+    rows-less
+    rows-again
+    returns
+    returns-2)

@@ -1,0 +1,24 @@
+-- `judging::plex::missing` meets its contract: the size of what is left of s without the neighbours of v.
+use mathlib.Core.Path.{ap, _∙_}
+use Rattle.sets.specs.Set.{size, minus}
+use Rattle.sets.specs.Words.{mask}
+use Rattle.judging.specs.Graph.{missing}
+use borrow.Author.Needs.{needs}
+use Rattle.judging.proofs.plex.missing.Statement.{statement}
+use Rattle.judging.proofs.plex.missing.Tie as tie
+
+get-requires : tie.Need-get-requires
+get-requires c κs = search needs
+
+minus-requires : tie.Need-minus-requires
+minus-requires c κs = search needs
+
+size-requires : tie.Need-size-requires
+size-requires c κs = search needs
+
+returns : tie.Need-returns
+unfolding missing
+returns c = (c .size .ensures .0 ∙ ap size (c .before .minus .ensures ∙ ap (minus (mask (c .before .before .before .before .args .s))) (c .before .before .get .ensures)), c .size .ensures .1)
+
+pub missing-spec : {M : Type 1} → statement M
+missing-spec = tie.close (tie.spec get-requires minus-requires size-requires returns)
