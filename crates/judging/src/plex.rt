@@ -37,24 +37,24 @@ pub fn unblocked(rows: &[u64], k: usize, s: Set) -> Set
     requires { ⌜ Inside (masks (now rows)) (mask s) ⌝ }
     ensures { λ r. ⌜ mask r ≡ unblocked (masks (now (rows .entry))) k (mask s) ⌝ }
 {
-    let mut open = sets::minus(sets::full(sets::count(rows)), s);
+    let mut free = sets::minus(sets::full(sets::count(rows)), s);
     let mut left = s;
     while !sets::is_empty(left) {
         let v = sets::lowest(left);
         left = sets::rest(left, v);
         if k <= missing(rows, s, v) {
-            open = sets::meet(open, sets::get(rows, v));
+            free = sets::meet(free, sets::get(rows, v));
         }
     }
-    open
+    free
 }
 
-// Is there a vertex outside s that can be added to every k-plex inside s?
-pub fn is_swallowed(rows: &[u64], k: usize, s: Set) -> bool
-    requires { ⌜ Inside (masks (now rows)) (mask s) ⌝ }
+// Is there a vertex outside s that can be added to every k-plex inside s? The vertices that no member of s blocks are given.
+pub fn is_swallowed(rows: &[u64], k: usize, s: Set, free: Set) -> bool
+    requires { ⌜ mask free ≡ unblocked (masks (now rows)) k (mask s) ⌝ }
     ensures { λ r. ⌜ r ≡ swallowed (masks (now (rows .entry))) k (mask s) ⌝ }
 {
-    let mut left = unblocked(rows, k, s);
+    let mut left = free;
     while !sets::is_empty(left) {
         let x = sets::lowest(left);
         if missing(rows, s, x) < k {
@@ -73,5 +73,5 @@ pub fn is_maximal(rows: &[u64], k: usize, s: Set) -> bool
     if !is_plex(rows, k, s) {
         return false;
     }
-    !is_swallowed(rows, k, s)
+    !is_swallowed(rows, k, s, unblocked(rows, k, s))
 }

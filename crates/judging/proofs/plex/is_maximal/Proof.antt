@@ -9,23 +9,29 @@ use Rattle.judging.specs.Plex.{plex}
 use Rattle.judging.specs.PlexLaws.{plex-holds}
 use Rattle.judging.specs.SwallowLaws.{maximal-by-swallow}
 use Rattle.judging.specs.JudgeLaws.{no-plex}
+use borrow.Author.Needs.{needs}
 use Rattle.judging.proofs.plex.is_maximal.Statement.{statement}
 use Rattle.judging.proofs.plex.is_maximal.Tie as tie
 
 is-plex-requires : tie.Need-is-plex-requires
-is-plex-requires c κs = c .before .pre .inside
+is-plex-requires c κs = search needs
 
 returns : tie.Need-returns
 returns c = no-plex (masks (now (c .before .before .before .args .rows))) (c .before .before .before .args .k) (mask (c .before .before .before .args .s)) (sym (c .before .is-plex .ensures) ∙ not-true (c .before .is-plex .result) (c .if1 .taken))
 
+unblocked-requires : tie.Need-unblocked-requires
+unblocked-requires c κs = search needs
+
 is-swallowed-requires : tie.Need-is-swallowed-requires
-is-swallowed-requires c κs = c .before .before .before .pre .inside
+is-swallowed-requires c κs = search needs
 
 returns-2 : tie.Need-returns-2
 returns-2 c =
     ap not (c .is-swallowed .ensures)
-    ∙ maximal-by-swallow (masks (now (c .before .before .before .before .args .rows))) (c .before .before .before .before .args .k) (mask (c .before .before .before .before .args .s)) (c .before .before .before .before .pre .valid) (c .before .before .before .before .pre .inside .below)
-    (plex-holds (masks (now (c .before .before .before .before .args .rows))) (c .before .before .before .before .args .k) (mask (c .before .before .before .before .args .s)) (true-holds (plex (masks (now (c .before .before .before .before .args .rows))) (c .before .before .before .before .args .k) (mask (c .before .before .before .before .args .s))) (sym (c .before .before .is-plex .ensures) ∙ not-false (c .before .before .is-plex .result) (c .before .if1 .left))))
+    ∙ maximal-by-swallow (masks (now (c .before .before .before .before .before .args .rows))) (c .before .before .before .before .before .args .k) (mask (c .before .before .before .before .before .args .s)) (c .before .before .before .before .before .pre .valid) (c .before .before .before .before .before .pre .inside .below)
+    (plex-holds (masks (now (c .before .before .before .before .before .args .rows))) (c .before .before .before .before .before .args .k) (mask (c .before .before .before .before .before .args .s)) (true-holds (plex (masks (now (c .before .before .before .before .before .args .rows))) (c .before .before .before .before .before .args .k) (mask (c .before .before .before .before .before .args .s))) (sym (c .before .before .before .is-plex .ensures) ∙ not-false (c .before .before .before .is-plex .result) (c .before .before .if1 .left))))
 
 pub is-maximal-spec : {M : Type 1} → statement M
-is-maximal-spec = tie.close (tie.spec is-plex-requires returns is-swallowed-requires returns-2)
+is-maximal-spec =
+    tie.close
+    (tie.spec is-plex-requires returns unblocked-requires is-swallowed-requires returns-2)

@@ -13,10 +13,10 @@ use Rattle.judging.proofs.plex.unblocked.Statement.{statement}
 use Rattle.judging.proofs.plex.unblocked.Tie as tie
 
 abbrev Inv-loop : tie.InvT-loop
-Inv-loop rows k s open₀ left₀ «open» left = Opened (masks rows) k (mask s) (mask left) (mask «open»)
+Inv-loop rows k s free₀ left₀ free left = Opened (masks rows) k (mask s) (mask left) (mask free)
 
 abbrev μ-loop : tie.MeasureT-loop
-μ-loop rows k s open₀ left₀ «open» left = mask left
+μ-loop rows k s free₀ left₀ free left = mask left
 
 count-requires : tie.Need-count-requires Inv-loop μ-loop
 count-requires c κs = tt
@@ -55,8 +55,8 @@ loop-less c = walk-falls (mask (c .before .before .before .before .before .befor
 
 loop-again : tie.Need-loop-again Inv-loop μ-loop
 loop-again c =
-    opened-meet (masks (now (c .before .before .before .before .before .before .before .before .before .before .before .before .before .args .rows))) (c .before .before .before .before .before .before .before .before .before .before .before .before .before .args .k) (mask (c .before .before .before .before .before .before .before .before .before .before .before .before .before .args .s)) (mask (c .before .before .before .before .before .before .before .before .loop .left)) (mask (c .before .before .before .before .before .before .before .before .loop .«open»)) (c .before .before .before .before .before .lowest .result) (mask (c .before .before .before .before .rest .result)) (mask (c .meet .result)) (c .before .before .before .before .rest .ensures)
-    (c .meet .ensures ∙ ap (bitAnd (mask (c .before .before .before .before .before .before .before .before .loop .«open»))) (c .before .get .ensures)) (c .before .before .before .before .before .before .before .before .loop .inv)
+    opened-meet (masks (now (c .before .before .before .before .before .before .before .before .before .before .before .before .before .args .rows))) (c .before .before .before .before .before .before .before .before .before .before .before .before .before .args .k) (mask (c .before .before .before .before .before .before .before .before .before .before .before .before .before .args .s)) (mask (c .before .before .before .before .before .before .before .before .loop .left)) (mask (c .before .before .before .before .before .before .before .before .loop .free)) (c .before .before .before .before .before .lowest .result) (mask (c .before .before .before .before .rest .result)) (mask (c .meet .result)) (c .before .before .before .before .rest .ensures)
+    (c .meet .ensures ∙ ap (bitAnd (mask (c .before .before .before .before .before .before .before .before .loop .free))) (c .before .get .ensures)) (c .before .before .before .before .before .before .before .before .loop .inv)
     (walk-below (length (masks (now (c .before .before .before .before .before .before .before .before .before .before .before .before .before .args .rows)))) (mask (c .before .before .before .before .before .before .before .before .before .before .before .before .before .args .s)) (mask (c .before .before .before .before .before .before .before .before .loop .left)) (c .before .before .before .before .before .lowest .result) (c .before .before .before .before .before .before .before .before .before .before .before .before .before .pre .below) (c .before .before .before .before .before .before .before .before .loop .inv .walked .part) (c .before .before .before .before .before .lowest .ensures))
     (walk-member (mask (c .before .before .before .before .before .before .before .before .before .before .before .before .before .args .s)) (mask (c .before .before .before .before .before .before .before .before .loop .left)) (c .before .before .before .before .before .lowest .result) (c .before .before .before .before .before .before .before .before .loop .inv .walked .part) (c .before .before .before .before .before .lowest .ensures))
     (omega (arith, c .before .before .if2 .taken, c .before .before .before .missing .ensures .0))
@@ -65,10 +65,10 @@ loop-less-2 : tie.Need-loop-less-2 Inv-loop μ-loop
 loop-less-2 c = walk-falls (mask (c .before .before .before .before .before .before .loop .left)) (c .before .before .before .lowest .result) (mask (c .before .before .rest .result)) (c .before .before .before .lowest .ensures) (c .before .before .rest .ensures)
 
 loop-again-2 : tie.Need-loop-again-2 Inv-loop μ-loop
-loop-again-2 c = opened-same (masks (now (c .before .before .before .before .before .before .before .before .before .before .before .args .rows))) (c .before .before .before .before .before .before .before .before .before .before .before .args .k) (mask (c .before .before .before .before .before .before .before .before .before .before .before .args .s)) (mask (c .before .before .before .before .before .before .loop .left)) (mask (c .before .before .before .before .before .before .loop .«open»)) (c .before .before .before .lowest .result) (mask (c .before .before .rest .result)) (c .before .before .rest .ensures) (c .before .before .before .before .before .before .loop .inv) (omega (arith, c .if2 .left, c .before .missing .ensures .0))
+loop-again-2 c = opened-same (masks (now (c .before .before .before .before .before .before .before .before .before .before .before .args .rows))) (c .before .before .before .before .before .before .before .before .before .before .before .args .k) (mask (c .before .before .before .before .before .before .before .before .before .before .before .args .s)) (mask (c .before .before .before .before .before .before .loop .left)) (mask (c .before .before .before .before .before .before .loop .free)) (c .before .before .before .lowest .result) (mask (c .before .before .rest .result)) (c .before .before .rest .ensures) (c .before .before .before .before .before .before .loop .inv) (omega (arith, c .if2 .left, c .before .missing .ensures .0))
 
 returns : tie.Need-returns Inv-loop μ-loop
-returns c = opened-all (masks (now (c .before .before .before .before .before .before .before .args .rows))) (c .before .before .before .before .before .before .before .args .k) (mask (c .before .before .before .before .before .before .before .args .s)) (mask (c .before .before .loop .left)) (mask (c .before .before .loop .«open»)) (walk-over (c .before .is-empty .result) (mask (c .before .before .loop .left)) (c .before .is-empty .ensures) (c .if1 .left)) (c .before .before .loop .inv)
+returns c = opened-all (masks (now (c .before .before .before .before .before .before .before .args .rows))) (c .before .before .before .before .before .before .before .args .k) (mask (c .before .before .before .before .before .before .before .args .s)) (mask (c .before .before .loop .left)) (mask (c .before .before .loop .free)) (walk-over (c .before .is-empty .result) (mask (c .before .before .loop .left)) (c .before .is-empty .ensures) (c .if1 .left)) (c .before .before .loop .inv)
 
 pub unblocked-spec : {M : Type 1} → statement M
 unblocked-spec =

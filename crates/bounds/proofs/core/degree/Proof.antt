@@ -1,0 +1,28 @@
+-- `bounds::core::degree` meets its contract: the members that s shares with the row of v are those that v is adjacent to.
+use mathlib.Core.Path.{ap, _∙_}
+use lib.Bits.{bitAnd}
+use Rattle.sets.specs.Set.{size}
+use Rattle.sets.specs.Words.{mask}
+use Rattle.judging.specs.Graph.{degree}
+use borrow.Author.Needs.{needs}
+use Rattle.bounds.proofs.core.degree.Statement.{statement}
+use Rattle.bounds.proofs.core.degree.Tie as tie
+
+get-requires : tie.Need-get-requires
+get-requires c κs = search needs
+
+meet-requires : tie.Need-meet-requires
+meet-requires c κs = search needs
+
+size-requires : tie.Need-size-requires
+size-requires c κs = search needs
+
+returns : tie.Need-returns
+unfolding degree
+returns c = (
+  c .size .ensures .0 ∙ ap size (c .before .meet .ensures ∙ ap (bitAnd (mask (c .before .before .before .before .args .s))) (c .before .before .get .ensures)),
+  c .size .ensures .1,
+)
+
+pub degree-spec : {M : Type 1} → statement M
+degree-spec = tie.close (tie.spec get-requires meet-requires size-requires returns)

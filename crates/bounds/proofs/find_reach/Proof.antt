@@ -1,0 +1,43 @@
+-- `bounds::find_reach` meets its contract: the checks decide first, the vertex next, and then the reach is found.
+use native.Mathlib.Omega.{arith}
+use borrow.Author.Needs.{needs}
+use Rattle.bounds.specs.CallLaws.{reach-refused, reach-ready, reach-outside, reach-found}
+use Rattle.bounds.proofs.find_reach.Statement.{statement}
+use Rattle.bounds.proofs.find_reach.Tie as tie
+
+check-graph-requires : tie.Need-check-graph-requires
+check-graph-requires c κs = search needs
+
+enum-known-checked : tie.Need-enum-known-checked
+enum-known-checked c = search needs
+
+returns : tie.Need-returns
+returns c = reach-refused _ _ _ (c .before .before .before .check-graph .ensures) _ (c .before .checked .given .1)
+
+enum-told : tie.Need-enum-told
+enum-told c = search needs
+
+count-requires : tie.Need-count-requires
+count-requires c κs = search needs
+
+returns-2 : tie.Need-returns-2
+returns-2 c = reach-outside _ _ _ (c .before .before .before .before .check-graph .ensures) (c .before .before .enum-told .given .1) (omega arith)
+
+reach-requires : tie.Need-reach-requires
+reach-requires c κs = reach-ready _ _ _ (c .before .before .before .before .check-graph .ensures) (c .before .before .enum-told .given .1) (omega arith)
+
+returns-3 : tie.Need-returns-3
+returns-3 c = reach-found _ _ _ (c .before .before .before .before .before .check-graph .ensures) (c .before .before .before .enum-told .given .1) (omega arith) _ (c .reach .ensures)
+
+pub find-reach-spec : {M : Type 1} → statement M
+find-reach-spec =
+    tie.close
+    (tie.spec
+    check-graph-requires
+    enum-known-checked
+    returns
+    enum-told
+    count-requires
+    returns-2
+    reach-requires
+    returns-3)

@@ -1,0 +1,3 @@
+-- What the proofs of sorted placing share.
+pub mod ShiftLaws
+pub mod InsertLaws

@@ -1,0 +1,43 @@
+-- What a call of the search is to add, and what its parts rely on.
+--
+--   found g k q s c x     x is listed, holds s and has no member outside s and c
+--   Found                 the same as a statement
+--   Empty g k q s c       nothing is to be added: the branch is cut
+--   Compatible g k s c    s is a plex, apart from c, and stays one with each candidate of c
+--   Short g k q s a       every plex between s and a has fewer than q members
+--   Near g k q t          a listed plex that holds v has no member outside row v of the table t, but v
+use Prim.Native.Nat.{ℕ, _^_, _<_}
+use mathlib.Core.Path.{_≡_}
+use mathlib.Core.Logic.{_≢_}
+use mathlib.Core.Bool.{Bool, _&&_}
+use mathlib.Core.List.{List}
+use lib.Bits.{bitOr}
+use lib.ListN.{length}
+use Rattle.sets.specs.Set.{bit, In, Sub, size, subset, with}
+use Rattle.sets.specs.Graph.{row}
+use Rattle.judging.specs.Plex.{Plex}
+use Rattle.search.specs.Listing.{listed, Listed}
+
+unfoldable pub found : List ℕ → ℕ → ℕ → ℕ → ℕ → ℕ → Bool
+found g k q s c x = subset s x && subset x (bitOr s c) && listed g k q x
+
+pub record Found (g : List ℕ) (k q s c x : ℕ) : Type 0 where
+  pub lower : Sub s x
+  pub upper : Sub x (bitOr s c)
+  pub listed : Listed g k q x
+
+abbrev pub Empty : List ℕ → ℕ → ℕ → ℕ → ℕ → Type 0
+Empty g k q s c = (x : ℕ) → Found g k q s c x → ⊥
+
+pub record Compatible (g : List ℕ) (k s c : ℕ) : Type 0 where
+  pub below : s < 2 ^ length g
+  pub candidates : c < 2 ^ length g
+  pub apart : (v : ℕ) → In v c → bit s v ≡ 0
+  pub plexed : Plex g k s
+  pub joined : (v : ℕ) → In v c → Plex g k (with s v)
+
+abbrev pub Short : List ℕ → ℕ → ℕ → ℕ → ℕ → Type 0
+Short g k q s a = (t : ℕ) → t < 2 ^ length g → Plex g k t → Sub s t → Sub t a → size t < q
+
+abbrev pub Near : List ℕ → ℕ → ℕ → List ℕ → Type 0
+Near g k q t = (v x : ℕ) → v < length g → Listed g k q x → In v x → (u : ℕ) → In u x → u ≢ v → In u (row t v)

@@ -1,0 +1,2 @@
+// The search: sorted placing of the masks found.
+pub mod place;
