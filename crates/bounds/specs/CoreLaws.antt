@@ -18,18 +18,12 @@ use Rattle.sets.specs.Set.{bit, has, In, Sub, size, without, full}
 use Rattle.sets.specs.RangeLaws.{mem-range, range-mem, any-elim, any-intro, and-left, and-right, both}
 use Rattle.sets.specs.BitLaws.{ext, bit-le, bit-and, bit-minus, bit-high}
 use Rattle.sets.specs.WordLaws.{bit-full}
-use Rattle.sets.specs.SubsetLaws.{sub-refl, sub-trans, sub-antisym, sub-of-in, in-below, has-in, in-has, minus-sub, without-same, without-other}
+use Rattle.sets.specs.SubsetLaws.{sub-number, sub-refl, sub-trans, sub-antisym, sub-of-in, in-below, has-in, in-has, minus-sub, without-same, without-other}
 use Rattle.sets.specs.MemberLaws.{set-of-in, set-of-holds, set-of-below, all-members, members-all}
 use Rattle.judging.specs.Graph.{degree}
 use Rattle.judging.specs.Plex.{Plex}
 use Rattle.judging.specs.GraphLaws.{degree-missing, degree-mono}
 use Rattle.bounds.specs.Core.{dense, Dense, core, Peeled}
-
--- ---- sets
-
--- a part is no greater as a number
-pub sub-number : (a b : ℕ) → Sub a b → a ≤ b
-sub-number a b h = omega (arith, and-le-l b a, ext (bitAnd b a) a (λ v. omega (arith, bit-and b a v, h v)))
 
 -- ---- the test and the statement
 

@@ -22,7 +22,7 @@ use Rattle.sets.specs.MemberLaws.{set-of-in, set-of-holds, set-of-below, set-of
 use Rattle.sets.specs.WalkLaws.{Walked, walk-none, walk-more, walk-map, walk-all}
 use Rattle.judging.specs.Graph.{adjacent, missing, Valid}
 use Rattle.judging.specs.Plex.{Plex}
-use Rattle.judging.specs.GraphLaws.{adjacent-in, in-adjacent}
+use Rattle.judging.specs.GraphLaws.{miss-both, adjacent-in, in-adjacent}
 use Rattle.bounds.specs.Reach.{reach}
 
 -- ---- what the reach of a holds: a, its neighbours, and theirs
@@ -69,24 +69,6 @@ unfolding reach near
 reach-below g a = set-of-below (near g a) (length g)
 
 -- ---- large plexes
-
-two-members : (s u v : ℕ) → u ≢ v → In u s → In v s → 2 ≤ size s
-two-members s u v ne hu hv =
-    omega (arith, size-mono (with (2 ^ u) v) s (with-sub (2 ^ u) v s (λ x. one x (ℕ-discrete u x)) hv), size-with (2 ^ u) v (bit-pow-other u v ne), size-one u)
-  where
-    one : (x : ℕ) → Dec (u ≡ x) → bit (2 ^ u) x ≤ bit s x
-    one x (yes e) = subst (λ (y : ℕ). bit (2 ^ u) y ≤ bit s y) e (omega (arith, bit-pow-same u))
-    one x (no n) = omega (arith, bit-pow-other u x n)
-
--- two members that are not adjacent miss each other and themselves
-miss-both : (g : List ℕ) (s u v : ℕ) → Valid g → s < 2 ^ length g → In u s → In v s → u ≢ v → bit (row g u) v ≡ 0
-    → 2 ≤ size (bitAnd (minus s (row g u)) (minus s (row g v)))
-miss-both g s u v ok b hu hv ne nl =
-    let lu = in-below (length g) s u b hu in
-    let lv = in-below (length g) s v b hv in
-    two-members (bitAnd (minus s (row g u)) (minus s (row g v))) u v ne
-    (omega (arith, bit-and (minus s (row g u)) (minus s (row g v)) u, bit-minus s (row g u) u, bit-minus s (row g v) u, ok .loopless u lu, ok .mutually u v lu lv))
-    (omega (arith, bit-and (minus s (row g u)) (minus s (row g v)) v, bit-minus s (row g u) v, bit-minus s (row g v) v, ok .loopless v lv))
 
 -- 001, Lemma 1: two members of a plex of 2k - 1 or more vertices that are not adjacent have a common neighbour among the members
 pub common-neighbour : (g : List ℕ) (k s u v : ℕ) → Valid g → s < 2 ^ length g → Plex g k s → 2 * k ≤ size s + 1

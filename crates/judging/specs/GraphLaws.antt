@@ -1,17 +1,19 @@
 -- Laws of degrees and non-neighbours: they add up to the size, grow with the set, and change by one vertex more.
-use Prim.Native.Nat.{ℕ, suc, _+_, _≤_}
+use Prim.Native.Nat.{ℕ, suc, _+_, _^_, _≤_, _<_}
 use native.Mathlib.Omega.{arith}
 use native.Mathlib.Decide.{ℕ-discrete}
 use mathlib.Core.Path.{_≡_, ap, subst}
+use mathlib.Core.Logic.{_≢_}
 use mathlib.Core.List.{List}
 use lib.Dec.{T}
 use lib.Bits.{bitAnd}
+use lib.ListN.{length}
 use Rattle.sets.specs.Set.{bit, In, Sub, size, with, minus}
 use Rattle.sets.specs.Graph.{row}
 use Rattle.sets.specs.BitLaws.{ext, bit-le, bit-and, bit-minus}
-use Rattle.sets.specs.SubsetLaws.{with-same, with-other, has-in, in-has}
-use Rattle.sets.specs.SizeLaws.{size-minus, size-with, size-mono}
-use Rattle.judging.specs.Graph.{adjacent, degree, missing}
+use Rattle.sets.specs.SubsetLaws.{in-below, with-same, with-other, has-in, in-has}
+use Rattle.sets.specs.SizeLaws.{two-members, size-minus, size-with, size-mono}
+use Rattle.judging.specs.Graph.{adjacent, degree, missing, Valid}
 
 -- the members of s, adjacent to a or not
 pub degree-missing : (g : List ℕ) (s a : ℕ) → degree g s a + missing g s a ≡ size s
@@ -68,3 +70,13 @@ adjacent-in g a b t = has-in (row g a) b t
 pub in-adjacent : (g : List ℕ) (a b : ℕ) → In b (row g a) → T (adjacent g a b)
 unfolding adjacent
 in-adjacent g a b e = in-has (row g a) b e
+
+-- two members that are not adjacent miss each other and themselves
+pub miss-both : (g : List ℕ) (s u v : ℕ) → Valid g → s < 2 ^ length g → In u s → In v s → u ≢ v → bit (row g u) v ≡ 0
+    → 2 ≤ size (bitAnd (minus s (row g u)) (minus s (row g v)))
+miss-both g s u v ok b hu hv ne nl =
+    let lu = in-below (length g) s u b hu in
+    let lv = in-below (length g) s v b hv in
+    two-members (bitAnd (minus s (row g u)) (minus s (row g v))) u v ne
+    (omega (arith, bit-and (minus s (row g u)) (minus s (row g v)) u, bit-minus s (row g u) u, bit-minus s (row g v) u, ok .loopless u lu, ok .mutually u v lu lv))
+    (omega (arith, bit-and (minus s (row g u)) (minus s (row g v)) v, bit-minus s (row g u) v, bit-minus s (row g v) v, ok .loopless v lv))

@@ -4,4 +4,8 @@ pub mod Placing
 pub mod Found
 pub mod KeepLaws
 pub mod PlacingLaws
+pub mod TrimLaws
 pub mod ListingLaws
+pub mod FoundLaws
+pub mod Survey
+pub mod Choice

@@ -4,14 +4,15 @@ use native.Mathlib.Nat.{sub-le, sub-add-min-cancel, max-add-min, lt-of-le-of-lt,
 use native.Mathlib.Omega.{arith}
 use native.Mathlib.Decide.{ℕ-discrete, decLt}
 use mathlib.Core.Path.{_≡_, refl, sym, ap, ap₂, _∙_, subst}
+use mathlib.Core.Logic.{_≢_}
 use lib.Arith.{lt-one}
 use lib.Pow.{pow-pos}
 use lib.Bits.{bitAnd, bitOr, or-lt, and-le-l}
 use lib.Count.{ones, ones-step, ones-cat}
 use Rattle.sets.specs.Set.{bit, In, Sub, size, with, minus}
-use Rattle.sets.specs.BitLaws.{bit-le, bit-zero, bit-suc, bit-and, bit-or, bit-minus, bit-high, bit-pow-other, ext, half-lt, small, small-left, small-right}
+use Rattle.sets.specs.BitLaws.{bit-pow-same, bit-le, bit-zero, bit-suc, bit-and, bit-or, bit-minus, bit-high, bit-pow-other, ext, half-lt, small, small-left, small-right}
 use Rattle.sets.specs.SumLaws.{sum, sum-ext, sum-mono, sum-add, sum-zero, sum-lt, sum-witness}
-use Rattle.sets.specs.SubsetLaws.{in-below}
+use Rattle.sets.specs.SubsetLaws.{with-sub, in-below}
 
 -- the size of a set is the sum of its digits
 pub size-sum : (n s : ℕ) → s < 2 ^ n → size s ≡ sum n (bit s)
@@ -112,3 +113,12 @@ sub-size-eq a b h l = ext a b (λ v. go v (decLt (bit a v) (bit b v)))
           size-sum (a + b) b (small-right a b),
           sum-lt (a + b) (bit a) (bit b) (λ u q. h u) v (in-below (a + b) b v (small-right a b) (omega (arith, bit-le b v))) k,
         ))
+
+-- two members
+pub two-members : (s u v : ℕ) → u ≢ v → In u s → In v s → 2 ≤ size s
+two-members s u v ne hu hv =
+    omega (arith, size-mono (with (2 ^ u) v) s (with-sub (2 ^ u) v s (λ x. one x (ℕ-discrete u x)) hv), size-with (2 ^ u) v (bit-pow-other u v ne), size-one u)
+  where
+    one : (x : ℕ) → Dec (u ≡ x) → bit (2 ^ u) x ≤ bit s x
+    one x (yes e) = subst (λ (y : ℕ). bit (2 ^ u) y ≤ bit s y) e (omega (arith, bit-pow-same u))
+    one x (no n) = omega (arith, bit-pow-other u x n)

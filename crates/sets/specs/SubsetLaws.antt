@@ -1,6 +1,6 @@
 -- Laws of inclusion and membership: the test and the statement; one vertex more, one less; a member is below any bound of the set.
 use Prim.Native.Nat.{ℕ, _^_, _≤_, _<_}
-use native.Mathlib.Nat.{le-refl, le-trans, lt-of-lt-of-le}
+use native.Mathlib.Nat.{le-refl, le-trans, lt-of-lt-of-le, lt-of-le-of-lt}
 use native.Mathlib.Omega.{arith}
 use native.Mathlib.Decide.{ℕ-discrete, decLt}
 use mathlib.Core.Path.{_≡_, ap, subst}
@@ -8,7 +8,7 @@ use mathlib.Core.Logic.{_≢_}
 use mathlib.Core.Bool.{not}
 use lib.Dec.{T, eqb, eqb→eq, eqb-refl, T-not, not-T}
 use lib.Pow.{pow-pos, pow-mono, pow-lt}
-use lib.Bits.{bitAnd, or-lt}
+use lib.Bits.{bitAnd, or-lt, and-le-l}
 use Rattle.sets.specs.Set.{bit, has, In, Sub, subset, with, minus}
 use Rattle.sets.specs.BitLaws.{bit-le, bit-and, bit-or, bit-minus, bit-high, bit-pow-same, bit-pow-other, ext}
 
@@ -112,3 +112,10 @@ not-in s v t = go (ℕ-discrete (bit s v) 1)
 
 pub not-has : (s v : ℕ) → bit s v ≡ 0 → T (not (has s v))
 not-has s v e = not-T (has s v) (λ t. omega (arith, e, has-in s v t))
+
+-- a part is no greater as a number
+pub sub-number : (a b : ℕ) → Sub a b → a ≤ b
+sub-number a b h = omega (arith, and-le-l b a, ext (bitAnd b a) a (λ v. omega (arith, bit-and b a v, h v)))
+
+pub sub-below : (n a b : ℕ) → Sub a b → b < 2 ^ n → a < 2 ^ n
+sub-below n a b h l = lt-of-le-of-lt (sub-number a b h) l

@@ -1,0 +1,66 @@
+-- `search::choice::pick` meets its contract: the best so far is always a member.
+use denote.Ref.{now}
+use lib.ListN.{length}
+use Rattle.sets.specs.Words.{mask, masks}
+use Rattle.sets.specs.SubsetLaws.{sub-refl}
+use Rattle.sets.specs.WalkLaws.{walk-falls, walk-member, walk-below, walk-goes-on}
+use Rattle.search.specs.Choice.{Picking, picking-next}
+use Rattle.search.proofs.choice.pick.Statement.{statement}
+use Rattle.search.proofs.choice.pick.Tie as tie
+
+abbrev Inv-loop : tie.InvT-loop
+Inv-loop rows a s most₀ best₀ left₀ most best left = Picking (mask s) (mask left) best
+
+abbrev μ-loop : tie.MeasureT-loop
+μ-loop rows a s most₀ best₀ left₀ most best left = mask left
+
+lowest-requires : tie.Need-lowest-requires Inv-loop μ-loop
+lowest-requires c κs = c .before .pre .some
+
+loop-holds : tie.Need-loop-holds Inv-loop μ-loop
+loop-holds c = record { member = c .lowest .ensures .member; part = sub-refl (mask (c .before .before .args .s)) }
+
+is-empty-requires : tie.Need-is-empty-requires Inv-loop μ-loop
+is-empty-requires c κs = tt
+
+lowest-requires-2 : tie.Need-lowest-requires-2 Inv-loop μ-loop
+lowest-requires-2 c κs = walk-goes-on (c .before .is-empty .result) (mask (c .before .before .loop .left)) (c .before .is-empty .ensures) (c .if1 .taken)
+
+rest-requires : tie.Need-rest-requires Inv-loop μ-loop
+rest-requires c κs = c .lowest2 .ensures
+
+missing-requires : tie.Need-missing-requires Inv-loop μ-loop
+missing-requires c κs = walk-below (length (masks (now (c .before .before .before .before .before .before .before .args .rows)))) (mask (c .before .before .before .before .before .before .before .args .s)) (mask (c .before .before .before .before .loop .left)) (c .before .lowest2 .result) (c .before .before .before .before .before .before .before .pre .below) (c .before .before .before .before .loop .inv .part) (c .before .lowest2 .ensures)
+
+loop-less : tie.Need-loop-less Inv-loop μ-loop
+loop-less c = walk-falls (mask (c .before .before .before .before .before .before .loop .left)) (c .before .before .before .lowest2 .result) (mask (c .before .before .rest .result)) (c .before .before .before .lowest2 .ensures) (c .before .before .rest .ensures)
+
+loop-again : tie.Need-loop-again Inv-loop μ-loop
+loop-again c = picking-next (mask (c .before .before .before .before .before .before .before .before .before .args .s)) (mask (c .before .before .before .before .before .before .loop .left)) (c .before .before .before .lowest2 .result) (mask (c .before .before .rest .result)) (c .before .before .before .lowest2 .result) (c .before .before .rest .ensures) (c .before .before .before .before .before .before .loop .inv .part) (walk-member (mask (c .before .before .before .before .before .before .before .before .before .args .s)) (mask (c .before .before .before .before .before .before .loop .left)) (c .before .before .before .lowest2 .result) (c .before .before .before .before .before .before .loop .inv .part) (c .before .before .before .lowest2 .ensures))
+
+loop-less-2 : tie.Need-loop-less-2 Inv-loop μ-loop
+loop-less-2 c = walk-falls (mask (c .before .before .before .before .before .before .loop .left)) (c .before .before .before .lowest2 .result) (mask (c .before .before .rest .result)) (c .before .before .before .lowest2 .ensures) (c .before .before .rest .ensures)
+
+loop-again-2 : tie.Need-loop-again-2 Inv-loop μ-loop
+loop-again-2 c = picking-next (mask (c .before .before .before .before .before .before .before .before .before .args .s)) (mask (c .before .before .before .before .before .before .loop .left)) (c .before .before .before .lowest2 .result) (mask (c .before .before .rest .result)) (c .before .before .before .before .before .before .loop .best) (c .before .before .rest .ensures) (c .before .before .before .before .before .before .loop .inv .part) (c .before .before .before .before .before .before .loop .inv .member)
+
+returns : tie.Need-returns Inv-loop μ-loop
+returns c = c .before .before .loop .inv .member
+
+pub pick-spec : {M : Type 1} → statement M
+pick-spec =
+    tie.close
+    (tie.spec
+    Inv-loop
+    μ-loop
+    lowest-requires
+    loop-holds
+    is-empty-requires
+    lowest-requires-2
+    rest-requires
+    missing-requires
+    loop-less
+    loop-again
+    loop-less-2
+    loop-again-2
+    returns)
