@@ -10,13 +10,12 @@ use mathlib.Core.Path.{_≡_, sym, ap, _∙_, subst}
 use mathlib.Core.Bool.{Bool, _&&_}
 use mathlib.Core.List.{List}
 use lib.Pow.{pow-pos}
-use lib.Bits.{bitAnd, and-le-l}
 use lib.Dec.{T, leb, leb→le, le→leb}
 use lib.ListN.{length}
 use Rattle.sets.specs.Ranges.{range, any}
 use Rattle.sets.specs.Set.{bit, has, In, Sub, size, without, full}
 use Rattle.sets.specs.RangeLaws.{mem-range, range-mem, any-elim, any-intro, and-left, and-right, both}
-use Rattle.sets.specs.BitLaws.{ext, bit-le, bit-and, bit-minus, bit-high}
+use Rattle.sets.specs.BitLaws.{bit-le, bit-minus, bit-high}
 use Rattle.sets.specs.WordLaws.{bit-full}
 use Rattle.sets.specs.SubsetLaws.{sub-number, sub-refl, sub-trans, sub-antisym, sub-of-in, in-below, has-in, in-has, minus-sub, without-same, without-other}
 use Rattle.sets.specs.MemberLaws.{set-of-in, set-of-holds, set-of-below, all-members, members-all}

@@ -8,16 +8,16 @@ use mathlib.Core.Path.{_≡_, subst}
 use mathlib.Core.Logic.{_≢_, _⊎_, inl, inr}
 use mathlib.Core.Bool.{Bool, _||_}
 use mathlib.Core.List.{List}
-use lib.Bits.{bitAnd, bitOr, or-lt}
+use lib.Bits.{bitOr, or-lt}
 use lib.Dec.{T, eqb, eqb→eq, eqb-refl}
 use lib.ListN.{length}
 use Rattle.sets.specs.Ranges.{any}
 use Rattle.sets.specs.Set.{bit, In, Sub, size, with, without, minus, members}
 use Rattle.sets.specs.Graph.{row}
 use Rattle.sets.specs.RangeLaws.{or-cases, or-left, or-right}
-use Rattle.sets.specs.BitLaws.{bit-le, bit-and, bit-or, bit-minus, bit-pow-same, bit-pow-other}
+use Rattle.sets.specs.BitLaws.{bit-le, bit-or, bit-minus}
 use Rattle.sets.specs.SubsetLaws.{sub-of-in, in-of-sub, in-below, sub-with, with-sub, with-same, with-below}
-use Rattle.sets.specs.SizeLaws.{size-or, size-mono, size-one, size-with, missing-member}
+use Rattle.sets.specs.SizeLaws.{size-or, missing-member}
 use Rattle.sets.specs.MemberLaws.{set-of-in, set-of-holds, set-of-below, set-of-unique, any-members, members-any}
 use Rattle.sets.specs.WalkLaws.{Walked, walk-none, walk-more, walk-map, walk-all}
 use Rattle.judging.specs.Graph.{adjacent, missing, Valid}

@@ -14,7 +14,7 @@ use lib.Pow.{pow-pos}
 use lib.ListN.{length}
 use Rattle.sets.specs.Set.{bit, has, In, Sub, minus, without}
 use Rattle.sets.specs.Graph.{row}
-use Rattle.sets.specs.Words.{width, Lowest}
+use Rattle.sets.specs.Words.{width}
 use Rattle.sets.specs.RangeLaws.{true-holds, false-fails}
 use Rattle.sets.specs.BitLaws.{bit-le, bit-pow-same, bit-pow-other}
 use Rattle.sets.specs.SubsetLaws.{has-in, in-has, minus-sub, sub-trans}

@@ -1,30 +1,30 @@
 -- Laws of what a call of the search is to add: where a branch may be cut, what a leaf adds, and how the branches with and without a vertex share the rest.
-use Prim.Native.Nat.{ℕ, suc, _+_, _^_, _≤_, _<_}
+use Prim.Native.Nat.{ℕ, _^_, _≤_, _<_}
 use native.Mathlib.Omega.{arith}
-use native.Mathlib.Nat.{le-trans, le-refl}
-use native.Mathlib.Decide.{ℕ-discrete, decLe}
-use mathlib.Core.Path.{_≡_, refl, sym, ap, _∙_, subst}
-use mathlib.Core.Logic.{_≢_, _⊎_, inl, inr}
-use mathlib.Core.Bool.{Bool, true, false, not, _&&_, _||_}
+use native.Mathlib.Nat.{le-refl}
+use native.Mathlib.Decide.{ℕ-discrete}
+use mathlib.Core.Path.{_≡_, sym, ap, _∙_, subst}
+use mathlib.Core.Logic.{_⊎_, inl, inr}
+use mathlib.Core.Bool.{_&&_}
 use mathlib.Core.List.{List}
-use lib.Dec.{T, eqb, eqb→eq, eqb-refl}
-use lib.Bits.{bitAnd, bitOr, or-lt}
+use lib.Dec.{T}
+use lib.Bits.{bitOr}
 use lib.Pow.{pow-pos}
 use lib.ListN.{length}
 use Rattle.sets.specs.Set.{bit, In, Sub, size, subset, with, without, minus}
 use Rattle.sets.specs.Graph.{row}
 use Rattle.sets.specs.RangeLaws.{and-left, and-right, both, or-cases, or-left, or-right}
-use Rattle.sets.specs.BitLaws.{bit-le, bit-and, bit-or, bit-minus, bit-high, ext}
-use Rattle.sets.specs.SubsetLaws.{subset-sub, sub-subset, sub-trans, sub-antisym, in-of-sub, in-below, with-sub, with-same, with-other, sub-with, without-same, without-other, minus-sub}
+use Rattle.sets.specs.BitLaws.{bit-le, bit-or, bit-minus, bit-high}
+use Rattle.sets.specs.SubsetLaws.{subset-sub, sub-subset, sub-trans, in-below, with-sub, with-same, with-other, sub-with, without-same, without-other, minus-sub}
 use Rattle.sets.specs.SizeLaws.{size-mono}
 use Rattle.judging.specs.Graph.{missing, Valid}
-use Rattle.judging.specs.Plex.{Plex, Maximal, swallowed}
+use Rattle.judging.specs.Plex.{Plex, swallowed}
 use Rattle.judging.specs.SwallowLaws.{swallowed-none, unswallowed-maximal}
-use Rattle.search.specs.Listing.{listed, Listed}
+use Rattle.search.specs.Listing.{listed}
 use Rattle.search.specs.ListingLaws.{listed-holds, listed-test}
 use Rattle.search.specs.Placing.{Apart, union}
 use Rattle.search.specs.PlacingLaws.{same-test}
-use Rattle.search.specs.Found.{found, Found, Empty, Compatible, Short}
+use Rattle.search.specs.Found.{found, Found, Empty, Short}
 use Rattle.search.specs.TrimLaws.{Kept}
 
 -- ---- the test and the statement

@@ -48,7 +48,7 @@ module _ (g : List ℕ) (k a : ℕ) where
           record {
             opened = opened-meet g k a left free v r p e f (h .opened) l i m;
             bounded =
-              walk-next (λ u. missing g a u ≤ max k n) a left v r e
+                walk-next (λ u. missing g a u ≤ max k n) a left v r e
                 (walk-map (λ u. missing g a u ≤ max k most) (λ u. missing g a u ≤ max k n) a left (λ u b. omega arith) (h .bounded)) (omega arith);
             reached = λ _. (i, sym z);
           }

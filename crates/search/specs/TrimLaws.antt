@@ -3,23 +3,23 @@
 --   Kept g k q s c r       r is c less some vertices that no listed plex that holds s has
 --   Blocked g k s v r      a member of s that v is not adjacent to and that misses k or more of s is adjacent to all of r
 --   Cheap g k s v r        a vertex of r that v is not adjacent to misses fewer than k of s
-use Prim.Native.Nat.{ℕ, suc, _+_, _^_, _≤_, _<_}
+use Prim.Native.Nat.{ℕ, _^_, _≤_, _<_}
 use native.Mathlib.Omega.{arith}
 use native.Mathlib.Decide.{ℕ-discrete, decLt}
 use mathlib.Core.Path.{_≡_, sym, subst}
 use mathlib.Core.Logic.{_≢_}
 use mathlib.Core.List.{List}
-use lib.Bits.{bitAnd, bitOr}
+use lib.Bits.{bitAnd}
 use lib.ListN.{length}
-use Rattle.sets.specs.Set.{bit, In, Sub, size, with, without, minus}
+use Rattle.sets.specs.Set.{bit, In, Sub, with, without, minus}
 use Rattle.sets.specs.Graph.{row}
 use Rattle.sets.specs.Words.{width}
 use Rattle.sets.specs.BitLaws.{bit-le, bit-and, bit-minus}
 use Rattle.sets.specs.SubsetLaws.{sub-refl, sub-trans, sub-below, with-sub, with-same, with-other, with-below, sub-with, in-of-sub, in-below, without-same, without-other, minus-sub}
-use Rattle.sets.specs.SizeLaws.{and-below, minus-below}
+use Rattle.sets.specs.SizeLaws.{minus-below}
 use Rattle.sets.specs.WalkLaws.{Walked, walk-none, walk-next, walk-map, walk-all}
 use Rattle.judging.specs.Graph.{missing, Valid}
-use Rattle.judging.specs.Plex.{Plex, Maximal}
+use Rattle.judging.specs.Plex.{Plex}
 use Rattle.judging.specs.GraphLaws.{missing-mono, missing-with}
 use Rattle.search.specs.Listing.{Listed}
 use Rattle.search.specs.Found.{Compatible, Near}
@@ -200,7 +200,7 @@ module _ (g : List ℕ) (k s v c : ℕ) (h : Trimmable g s c v) where
         (record {
           kept = λ q. kept-trans g k q s c d (bitAnd d (row g u)) (w .kept q) (kept-meet g k q s c (h .apart) d u (w .kept q .part) i m);
           walked =
-            walk-next (λ y. k ≤ missing g s y → Sub (bitAnd d (row g u)) (row g y)) (minus s (row g v)) left u r e
+              walk-next (λ y. k ≤ missing g s y → Sub (bitAnd d (row g u)) (row g y)) (minus s (row g v)) left u r e
               (walk-map (λ y. k ≤ missing g s y → Sub d (row g y)) (λ y. k ≤ missing g s y → Sub (bitAnd d (row g u)) (row g y)) (minus s (row g v)) left
               (λ y b m2 x. omega (arith, bit-and d (row g u) x, b m2 x)) (w .walked))
               (λ _ x. omega (arith, bit-and d (row g u) x));
@@ -231,7 +231,7 @@ module _ (g : List ℕ) (k s v c : ℕ) (h : Trimmable g s c v) where
         (record {
           kept = λ q. kept-trans g k q s c d (without d u) (w .kept q) (kept-without g k q s c (h .apart) d u (h .valid) (w .kept q .part) m);
           walked =
-            walk-next (λ y. k ≤ missing g s y → bit (without d u) y ≡ 0) (minus c (row g v)) left u r e
+              walk-next (λ y. k ≤ missing g s y → bit (without d u) y ≡ 0) (minus c (row g v)) left u r e
               (walk-map (λ y. k ≤ missing g s y → bit d y ≡ 0) (λ y. k ≤ missing g s y → bit (without d u) y ≡ 0) (minus c (row g v)) left
               (λ y b m2. omega (arith, minus-sub d (2 ^ u) y, b m2)) (w .walked))
               (λ _. without-same d u);

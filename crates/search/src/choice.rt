@@ -5,7 +5,6 @@ ghost use lib.ListN.{length};
 ghost use Rattle.sets.specs.Set.{In};
 ghost use Rattle.sets.specs.Words.{width, mask, masks};
 ghost use Rattle.search.specs.Choice.{Choosable, Among, Pickable};
-
 use sets::Set;
 
 // The candidates to choose from: w alone where it is one, else those that w is not adjacent to.

@@ -1,5 +1,7 @@
-// The search: sorted placing of the masks found.
+// The search for all maximal k-plexes, and the call that lists them.
 pub mod choice;
+pub mod near;
+pub mod partition;
 pub mod place;
 pub mod survey;
 pub mod trim;

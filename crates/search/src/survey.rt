@@ -2,7 +2,6 @@
 ghost use Rattle.sets.specs.Words.{mask, masks};
 ghost use Rattle.judging.specs.Setting.{Inside};
 ghost use Rattle.search.specs.Survey.{Surveyed};
-
 use sets::Set;
 
 // What the pass finds: `most` is the largest number that a member misses, where that is k or more, `worst` such a member,

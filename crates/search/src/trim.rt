@@ -2,7 +2,6 @@
 ghost use Rattle.sets.specs.Words.{mask, masks};
 ghost use Rattle.search.specs.TrimLaws.{Trimmable, Trimmed, Unblocked, Cheapened};
 ghost use Prim.Native.Nat.{ℕ};
-
 use sets::Set;
 
 // Drops what a member of s that misses k or more of s is not adjacent to. Only the members that v is not adjacent to can have come to that.

@@ -9,10 +9,10 @@ use lib.Arith.{lt-one}
 use lib.Pow.{pow-pos}
 use lib.Bits.{bitAnd, bitOr, or-lt, and-le-l}
 use lib.Count.{ones, ones-step, ones-cat}
-use Rattle.sets.specs.Set.{bit, In, Sub, size, with, minus}
-use Rattle.sets.specs.BitLaws.{bit-pow-same, bit-le, bit-zero, bit-suc, bit-and, bit-or, bit-minus, bit-high, bit-pow-other, ext, half-lt, small, small-left, small-right}
+use Rattle.sets.specs.Set.{bit, In, Sub, size, with, minus, without}
+use Rattle.sets.specs.BitLaws.{bit-le, bit-zero, bit-suc, bit-and, bit-or, bit-minus, bit-high, bit-pow-other, ext, half-lt, small, small-left, small-right}
 use Rattle.sets.specs.SumLaws.{sum, sum-ext, sum-mono, sum-add, sum-zero, sum-lt, sum-witness}
-use Rattle.sets.specs.SubsetLaws.{with-sub, in-below}
+use Rattle.sets.specs.SubsetLaws.{in-below, without-other}
 
 -- the size of a set is the sum of its digits
 pub size-sum : (n s : ℕ) → s < 2 ^ n → size s ≡ sum n (bit s)
@@ -116,9 +116,19 @@ sub-size-eq a b h l = ext a b (λ v. go v (decLt (bit a v) (bit b v)))
 
 -- two members
 pub two-members : (s u v : ℕ) → u ≢ v → In u s → In v s → 2 ≤ size s
-two-members s u v ne hu hv =
-    omega (arith, size-mono (with (2 ^ u) v) s (with-sub (2 ^ u) v s (λ x. one x (ℕ-discrete u x)) hv), size-with (2 ^ u) v (bit-pow-other u v ne), size-one u)
+two-members s u v ne hu hv = omega (arith, size-without s u hu, size-without (without s u) v (without-other s u v ne ∙ hv))
+
+-- a part that lacks a member is smaller
+pub size-less : (a b v : ℕ) → Sub a b → bit a v ≡ 0 → In v b → size a < size b
+size-less a b v h z e = omega (arith, size-mono a (without b v) (λ u. go u (ℕ-discrete v u)), size-without b v e)
   where
-    one : (x : ℕ) → Dec (u ≡ x) → bit (2 ^ u) x ≤ bit s x
-    one x (yes e) = subst (λ (y : ℕ). bit (2 ^ u) y ≤ bit s y) e (omega (arith, bit-pow-same u))
-    one x (no n) = omega (arith, bit-pow-other u x n)
+    go : (u : ℕ) → Dec (v ≡ u) → bit a u ≤ bit (without b v) u
+    go u (yes p) = subst (λ (x : ℕ). bit a x ≤ bit (without b v) x) p (omega arith)
+    go u (no np) = omega (arith, without-other b v u np, h u)
+
+-- two sets that hold each vertex no more often than two others have together no more members
+pub size-pair : (a b c d : ℕ) → ((v : ℕ) → bit a v + bit b v ≤ bit c v + bit d v) → size a + size b ≤ size c + size d
+size-pair a b c d h =
+    let either : Sub (bitOr a b) (bitOr c d) = λ v. omega (arith, h v, bit-or a b v, bit-or c d v, bit-le a v, bit-le b v) in
+    let both : Sub (bitAnd a b) (bitAnd c d) = λ v. omega (arith, h v, bit-and a b v, bit-and c d v, bit-le c v, bit-le d v) in
+    omega (arith, size-or a b, size-or c d, size-mono (bitOr a b) (bitOr c d) either, size-mono (bitAnd a b) (bitAnd c d) both)

@@ -28,7 +28,7 @@ minus-requires : tie.Need-minus-requires Inv-loop μ-loop
 minus-requires c κs = tt
 
 loop-holds : tie.Need-loop-holds Inv-loop μ-loop
-loop-holds c = 
+loop-holds c =
     subst (Surveyed (masks (now (c .before .before .before .before .args .rows))) (c .before .before .before .before .args .k) (mask (c .before .before .before .before .args .a)) (mask (c .before .before .before .before .args .a)) 0 0) (sym (c .minus .ensures ∙ ap (λ (f : ℕ). minus f (mask (c .before .before .before .before .args .a))) (c .before .full .ensures ∙ ap full (c .before .before .count .ensures))))
     (survey-none (masks (now (c .before .before .before .before .args .rows))) (c .before .before .before .before .args .k) (mask (c .before .before .before .before .args .a)) 0)
 
@@ -77,7 +77,7 @@ loop-again-3 : tie.Need-loop-again-3 Inv-loop μ-loop
 loop-again-3 c = survey-few (masks (now (c .before .before .before .before .before .before .before .before .before .before .before .args .rows))) (c .before .before .before .before .before .before .before .before .before .before .before .args .k) (mask (c .before .before .before .before .before .before .before .before .before .before .before .args .a)) (mask (c .before .before .before .before .before .before .loop .left)) (c .before .before .before .before .before .before .loop .most) (c .before .before .before .before .before .before .loop .worst) (mask (c .before .before .before .before .before .before .loop .free)) (c .before .before .before .lowest .result) (mask (c .before .before .rest .result)) (c .before .before .rest .ensures) (c .before .before .before .before .before .before .loop .inv) (omega (arith, c .if2 .left, c .before .missing .ensures .0))
 
 returns : tie.Need-returns Inv-loop μ-loop
-returns c = 
+returns c =
     subst (λ (l : ℕ). Surveyed (masks (now (c .before .before .before .before .before .before .before .args .rows))) (c .before .before .before .before .before .before .before .args .k) (mask (c .before .before .before .before .before .before .before .args .a)) l (c .before .before .loop .most) (c .before .before .loop .worst) (mask (c .before .before .loop .free))) (walk-over (c .before .is-empty .result) (mask (c .before .before .loop .left)) (c .before .is-empty .ensures) (c .if1 .left))
     (c .before .before .loop .inv)
 

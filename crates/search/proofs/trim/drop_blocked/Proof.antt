@@ -52,7 +52,7 @@ loop-less : tie.Need-loop-less Inv-loop μ-loop
 loop-less c = walk-falls (mask (c .before .before .before .before .before .before .before .before .loop .left)) (c .before .before .before .before .before .lowest .result) (mask (c .before .before .before .before .rest .result)) (c .before .before .before .before .before .lowest .ensures) (c .before .before .before .before .rest .ensures)
 
 loop-again : tie.Need-loop-again Inv-loop μ-loop
-loop-again c = 
+loop-again c =
     blocking-meet (masks (now (c .before .before .before .before .before .before .before .before .before .before .before .before .args .rows))) (c .before .before .before .before .before .before .before .before .before .before .before .before .args .k) (mask (c .before .before .before .before .before .before .before .before .before .before .before .before .args .s)) (c .before .before .before .before .before .before .before .before .before .before .before .before .args .v) (mask (c .before .before .before .before .before .before .before .before .before .before .before .before .args .c)) (c .before .before .before .before .before .before .before .before .before .before .before .before .pre) (mask (c .before .before .before .before .before .before .before .before .loop .left)) (mask (c .before .before .before .before .before .before .before .before .loop .kept)) (c .before .before .before .before .before .lowest .result) (mask (c .before .before .before .before .rest .result)) (c .before .before .before .before .rest .ensures) (c .before .before .before .before .before .before .before .before .loop .inv)
     (mask (c .meet .result)) (c .meet .ensures ∙ ap (bitAnd (mask (c .before .before .before .before .before .before .before .before .loop .kept))) (c .before .get2 .ensures)) (in-of-sub (minus (mask (c .before .before .before .before .before .before .before .before .before .before .before .before .args .s)) (row (masks (now (c .before .before .before .before .before .before .before .before .before .before .before .before .args .rows))) (c .before .before .before .before .before .before .before .before .before .before .before .before .args .v))) (mask (c .before .before .before .before .before .before .before .before .before .before .before .before .args .s)) (c .before .before .before .before .before .lowest .result) (minus-sub (mask (c .before .before .before .before .before .before .before .before .before .before .before .before .args .s)) (row (masks (now (c .before .before .before .before .before .before .before .before .before .before .before .before .args .rows))) (c .before .before .before .before .before .before .before .before .before .before .before .before .args .v))) (walk-member (minus (mask (c .before .before .before .before .before .before .before .before .before .before .before .before .args .s)) (row (masks (now (c .before .before .before .before .before .before .before .before .before .before .before .before .args .rows))) (c .before .before .before .before .before .before .before .before .before .before .before .before .args .v))) (mask (c .before .before .before .before .before .before .before .before .loop .left)) (c .before .before .before .before .before .lowest .result) (c .before .before .before .before .before .before .before .before .loop .inv .walked .part) (c .before .before .before .before .before .lowest .ensures))) (omega (arith, c .before .before .if2 .taken, c .before .before .before .missing .ensures .0))
 
@@ -63,7 +63,7 @@ loop-again-2 : tie.Need-loop-again-2 Inv-loop μ-loop
 loop-again-2 c = blocking-same (masks (now (c .before .before .before .before .before .before .before .before .before .before .args .rows))) (c .before .before .before .before .before .before .before .before .before .before .args .k) (mask (c .before .before .before .before .before .before .before .before .before .before .args .s)) (c .before .before .before .before .before .before .before .before .before .before .args .v) (mask (c .before .before .before .before .before .before .before .before .before .before .args .c)) (c .before .before .before .before .before .before .before .before .before .before .pre) (mask (c .before .before .before .before .before .before .loop .left)) (mask (c .before .before .before .before .before .before .loop .kept)) (c .before .before .before .lowest .result) (mask (c .before .before .rest .result)) (c .before .before .rest .ensures) (c .before .before .before .before .before .before .loop .inv) (omega (arith, c .if2 .left, c .before .missing .ensures .0))
 
 returns : tie.Need-returns Inv-loop μ-loop
-returns c = 
+returns c =
     record {
       kept = c .before .before .loop .inv .kept;
       blocked = blocking-all (masks (now (c .before .before .before .before .before .before .args .rows))) (c .before .before .before .before .before .before .args .k) (mask (c .before .before .before .before .before .before .args .s)) (c .before .before .before .before .before .before .args .v) (mask (c .before .before .before .before .before .before .args .c)) (c .before .before .before .before .before .before .pre) (mask (c .before .before .loop .left)) (mask (c .before .before .loop .kept)) (walk-over (c .before .is-empty .result) (mask (c .before .before .loop .left)) (c .before .is-empty .ensures) (c .if1 .left)) (c .before .before .loop .inv);

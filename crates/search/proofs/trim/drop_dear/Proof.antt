@@ -2,15 +2,13 @@
 use Prim.Native.Nat.{ℕ}
 use native.Mathlib.Omega.{arith}
 use mathlib.Core.Path.{sym, ap, subst, _∙_}
-use lib.Bits.{bitAnd}
 use denote.Ref.{now}
 use lib.ListN.{length}
 use Rattle.sets.specs.Set.{minus}
 use Rattle.sets.specs.Graph.{row}
 use Rattle.sets.specs.Words.{mask, masks}
-use Rattle.sets.specs.SubsetLaws.{in-of-sub, minus-sub}
 use Rattle.sets.specs.SizeLaws.{minus-below}
-use Rattle.sets.specs.WalkLaws.{walk-falls, walk-member, walk-below, walk-goes-on, walk-over}
+use Rattle.sets.specs.WalkLaws.{walk-falls, walk-below, walk-goes-on, walk-over}
 use Rattle.search.specs.TrimLaws.{Cheapening, cheapening-none, cheapening-same, cheapening-without, cheapening-all}
 use Rattle.search.proofs.trim.drop_dear.Statement.{statement}
 use Rattle.search.proofs.trim.drop_dear.Tie as tie
@@ -49,7 +47,7 @@ loop-less : tie.Need-loop-less Inv-loop μ-loop
 loop-less c = walk-falls (mask (c .before .before .before .before .before .before .before .loop .left)) (c .before .before .before .before .lowest .result) (mask (c .before .before .before .rest .result)) (c .before .before .before .before .lowest .ensures) (c .before .before .before .rest .ensures)
 
 loop-again : tie.Need-loop-again Inv-loop μ-loop
-loop-again c = 
+loop-again c =
     cheapening-without (masks (now (c .before .before .before .before .before .before .before .before .before .before .before .args .rows))) (c .before .before .before .before .before .before .before .before .before .before .before .args .k) (mask (c .before .before .before .before .before .before .before .before .before .before .before .args .s)) (c .before .before .before .before .before .before .before .before .before .before .before .args .v) (mask (c .before .before .before .before .before .before .before .before .before .before .before .args .c)) (c .before .before .before .before .before .before .before .before .before .before .before .pre) (mask (c .before .before .before .before .before .before .before .loop .left)) (mask (c .before .before .before .before .before .before .before .loop .kept)) (c .before .before .before .before .lowest .result) (mask (c .before .before .before .rest .result)) (c .before .before .before .rest .ensures) (c .before .before .before .before .before .before .before .loop .inv)
     (mask (c .without .result)) (c .without .ensures) (omega (arith, c .before .if2 .taken, c .before .before .missing .ensures .0))
 
@@ -60,7 +58,7 @@ loop-again-2 : tie.Need-loop-again-2 Inv-loop μ-loop
 loop-again-2 c = cheapening-same (masks (now (c .before .before .before .before .before .before .before .before .before .before .args .rows))) (c .before .before .before .before .before .before .before .before .before .before .args .k) (mask (c .before .before .before .before .before .before .before .before .before .before .args .s)) (c .before .before .before .before .before .before .before .before .before .before .args .v) (mask (c .before .before .before .before .before .before .before .before .before .before .args .c)) (c .before .before .before .before .before .before .before .before .before .before .pre) (mask (c .before .before .before .before .before .before .loop .left)) (mask (c .before .before .before .before .before .before .loop .kept)) (c .before .before .before .lowest .result) (mask (c .before .before .rest .result)) (c .before .before .rest .ensures) (c .before .before .before .before .before .before .loop .inv) (omega (arith, c .if2 .left, c .before .missing .ensures .0))
 
 returns : tie.Need-returns Inv-loop μ-loop
-returns c = 
+returns c =
     record {
       kept = c .before .before .loop .inv .kept;
       cheap = cheapening-all (masks (now (c .before .before .before .before .before .before .args .rows))) (c .before .before .before .before .before .before .args .k) (mask (c .before .before .before .before .before .before .args .s)) (c .before .before .before .before .before .before .args .v) (mask (c .before .before .before .before .before .before .args .c)) (c .before .before .before .before .before .before .pre) (mask (c .before .before .loop .left)) (mask (c .before .before .loop .kept)) (walk-over (c .before .is-empty .result) (mask (c .before .before .loop .left)) (c .before .is-empty .ensures) (c .if1 .left)) (c .before .before .loop .inv);

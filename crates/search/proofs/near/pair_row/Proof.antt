@@ -1,0 +1,79 @@
+-- `search::near::pair_row` meets its contract. A walk through the core without v takes out each member that is not close to v.
+use native.Mathlib.Omega.{arith}
+use mathlib.Core.Path.{sym, _∙_}
+use borrow.Author.Tests.{not-true, not-false}
+use Rattle.sets.specs.Set.{without}
+use Rattle.sets.specs.SizeLaws.{minus-below}
+use Rattle.sets.specs.Words.{mask, masks}
+use Rattle.sets.specs.WalkLaws.{walk-falls, walk-below, walk-goes-on, walk-over}
+use Rattle.search.specs.NearRows.{close}
+use Rattle.search.specs.NearLaws.{Sifted, sifted-none, sifted-keep, sifted-drop, sifted-row}
+use Rattle.search.proofs.near.pair_row.Statement.{statement}
+use Rattle.search.proofs.near.pair_row.Tie as tie
+
+abbrev Inv-loop : tie.InvT-loop
+Inv-loop rows k q core v left₀ kept₀ left kept = Sifted (close (masks rows) k q (mask core) v) (without (mask core) v) (mask left) (mask kept)
+
+abbrev μ-loop : tie.MeasureT-loop
+μ-loop rows k q core v left₀ kept₀ left kept = mask left
+
+without-requires : tie.Need-without-requires Inv-loop μ-loop
+without-requires c κs = omega (arith, c .before .pre .0 .inside .most, c .before .pre .1)
+
+loop-holds : tie.Need-loop-holds Inv-loop μ-loop
+loop-holds c = rw (c .without .ensures) (sifted-none _ _)
+
+is-empty-requires : tie.Need-is-empty-requires Inv-loop μ-loop
+is-empty-requires c κs = tt
+
+lowest-requires : tie.Need-lowest-requires Inv-loop μ-loop
+lowest-requires c κs = walk-goes-on _ _ (c .before .is-empty .ensures) (c .if1 .taken)
+
+rest-requires : tie.Need-rest-requires Inv-loop μ-loop
+rest-requires c κs = c .lowest .ensures
+
+is-close-requires : tie.Need-is-close-requires Inv-loop μ-loop
+is-close-requires c κs =
+    let pre = c .before .before .before .before .before .before .before .pre in
+    (pre .0, pre .1, walk-below _ _ _ _ (minus-below _ _ _ (pre .0 .inside .below)) (c .before .before .before .before .loop .inv .passed .part) (c .before .lowest .ensures))
+
+without-requires-2 : tie.Need-without-requires-2 Inv-loop μ-loop
+without-requires-2 c κs = c .before .before .before .lowest .ensures .fits
+
+loop-less : tie.Need-loop-less Inv-loop μ-loop
+loop-less c = walk-falls _ _ _ (c .before .before .before .before .lowest .ensures) (c .before .before .before .rest .ensures)
+
+loop-again : tie.Need-loop-again Inv-loop μ-loop
+loop-again c =
+    sifted-drop _ _ _ _ _ _ _ (c .before .before .before .rest .ensures) (c .without2 .ensures) (sym (c .before .before .is-close .ensures) ∙ not-true _ (c .before .if2 .taken))
+    (c .before .before .before .before .before .before .before .loop .inv)
+
+loop-less-2 : tie.Need-loop-less-2 Inv-loop μ-loop
+loop-less-2 c = walk-falls _ _ _ (c .before .before .before .lowest .ensures) (c .before .before .rest .ensures)
+
+loop-again-2 : tie.Need-loop-again-2 Inv-loop μ-loop
+loop-again-2 c =
+    sifted-keep _ _ _ _ _ _ (c .before .before .rest .ensures) (sym (c .before .is-close .ensures) ∙ not-false _ (c .if2 .left)) (c .before .before .before .before .before .before .loop .inv)
+
+returns : tie.Need-returns Inv-loop μ-loop
+returns c =
+    sifted-row _ _ _ _ _ _ _ (c .before .before .before .before .before .pre .0 .inside .below) (walk-over _ _ (c .before .is-empty .ensures) (c .if1 .left)) (c .before .before .loop .inv)
+
+pub pair-row-spec : {M : Type 1} → statement M
+pair-row-spec =
+    tie.close
+    (tie.spec
+    Inv-loop
+    μ-loop
+    without-requires
+    loop-holds
+    is-empty-requires
+    lowest-requires
+    rest-requires
+    is-close-requires
+    without-requires-2
+    loop-less
+    loop-again
+    loop-less-2
+    loop-again-2
+    returns)
