@@ -1,8 +1,15 @@
-// The core of a graph, the two-hop reach of a vertex, and the bounds.
+// The core of a graph, the two-hop reach of a vertex, and the bounds on the size of a k-plex, with the calls that give them.
 ghost use mathlib.Core.Path.{_≡_};
-ghost use Rattle.sets.specs.Words.{masks};
+ghost use Rattle.sets.specs.Words.{masks, mask};
 ghost use Rattle.bounds.specs.Calls.{coreFoundReply, coreReply, reachFoundReply, reachReply};
+ghost use Prim.Native.Nat.{_<_};
+ghost use lib.ListN.{length};
+ghost use Rattle.judging.specs.Refusal.{firstOf};
+ghost use Rattle.judging.specs.Setting.{Inside};
+ghost use Rattle.judging.specs.Calls.{passed, checkedReply};
+ghost use Rattle.bounds.specs.BoundCalls.{misplaced, boundCheck, boundFoundReply, firstBoundReply, secondBoundReply};
 
+pub mod bound;
 pub mod core;
 pub mod reach;
 
@@ -50,4 +57,71 @@ pub fn find_reach(rows: &[u64], v: usize) -> ReachFound
         return ReachFound::Refused(Refusal::Outside);
     }
     ReachFound::Reach(reach::reach(rows, v))
+}
+
+// The answer to a question for a bound.
+pub enum BoundFound {
+    Bound(usize),
+    Refused(Refusal),
+}
+
+// Are s and v no plex, is v not in c, or do s and c overlap?
+fn is_misplaced(rows: &[u64], k: usize, s: Set, c: Set, v: usize) -> bool
+    requires { ⌜ Inside (masks (now rows)) (mask s) × (v < length (masks (now rows))) ⌝ }
+    ensures { λ r. ⌜ r ≡ misplaced (masks (now (rows .entry))) k (mask s) (mask c) v ⌝ }
+{
+    if !judging::plex::is_plex(rows, k, sets::with(s, v)) {
+        return true;
+    }
+    if !sets::has(c, v) {
+        return true;
+    }
+    !sets::is_empty(sets::meet(s, c))
+}
+
+// Refusals 1, 2, 4, 5, 7 and 10.
+fn check_bound(rows: &[u64], slack: usize, s: Set, c: Set, v: usize) -> Checked
+    ensures { λ r. ⌜ checkedReply r ≡ firstOf (boundCheck (masks (now (rows .entry))) slack (mask s) (mask c) v) passed ⌝ }
+{
+    let checked = judging::check::check_set(rows, slack, s);
+    if let Checked::Failed(f) = checked {
+        return Checked::Failed(f);
+    }
+    let n = sets::count(rows);
+    if !sets::below(c, n) {
+        return Checked::Failed(Refusal::Outside);
+    }
+    if n <= v {
+        return Checked::Failed(Refusal::Outside);
+    }
+    if is_misplaced(rows, slack, s, c, v) {
+        return Checked::Failed(Refusal::Bound);
+    }
+    Checked::Passed
+}
+
+// The first bound: no k-plex that holds s and v and has no vertex outside s and c has more vertices. It counts the most neighbours of v in c whose
+// costs the members of s can pay together. Refusals: 1, 2, 4, 5, 7, 10. Cost: the checks, one pass over s and one over c.
+pub fn first_bound(rows: &[u64], slack: usize, s: Set, c: Set, v: usize) -> BoundFound
+    ensures { λ r. ⌜ boundFoundReply r ≡ firstBoundReply (masks (now (rows .entry))) slack (mask s) (mask c) v ⌝ }
+{
+    let checked = check_bound(rows, slack, s, c, v);
+    if let Checked::Failed(f) = checked {
+        return BoundFound::Refused(f);
+    }
+    let first = bound::first_bound(rows, slack, s, c, v);
+    BoundFound::Bound(first)
+}
+
+// The second bound, which is never above the first: no k-plex that holds s and v and has no vertex outside s and c has more vertices. Each neighbour of v
+// that is kept is paid for by the member with the least support. Refusals: 1, 2, 4, 5, 7, 10. Cost: the checks, one pass over s and two over c.
+pub fn second_bound(rows: &[u64], slack: usize, s: Set, c: Set, v: usize) -> BoundFound
+    ensures { λ r. ⌜ boundFoundReply r ≡ secondBoundReply (masks (now (rows .entry))) slack (mask s) (mask c) v ⌝ }
+{
+    let checked = check_bound(rows, slack, s, c, v);
+    if let Checked::Failed(f) = checked {
+        return BoundFound::Refused(f);
+    }
+    let second = bound::second_bound(rows, slack, s, c, v);
+    BoundFound::Bound(second)
 }

@@ -49,6 +49,10 @@ module _ (g : List ℕ) (k q s c : ℕ) where
 
   -- ---- cuts
 
+  -- nothing between s and a is larger than a
+  pub small-short : (a : ℕ) → size a < q → Short g k q s a
+  small-short a l t b p i j = omega (arith, size-mono t a j)
+
   pub cut-none : Empty g k q s c → (x : ℕ) → x < 2 ^ length g → T (found g k q s c x) → ⊥
   cut-none e x l t = e x (found-holds x l t)
 

@@ -13,3 +13,4 @@ pub mod Partition
 pub mod PartitionLaws
 pub mod NearRows
 pub mod NearLaws
+pub mod Ready

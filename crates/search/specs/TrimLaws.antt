@@ -16,7 +16,7 @@ use Rattle.sets.specs.Graph.{row}
 use Rattle.sets.specs.Words.{width}
 use Rattle.sets.specs.BitLaws.{bit-le, bit-and, bit-minus}
 use Rattle.sets.specs.SubsetLaws.{sub-refl, sub-trans, sub-below, with-sub, with-same, with-other, with-below, sub-with, in-of-sub, in-below, without-same, without-other, minus-sub}
-use Rattle.sets.specs.SizeLaws.{minus-below}
+use Rattle.sets.specs.SizeLaws.{and-below, minus-below}
 use Rattle.sets.specs.WalkLaws.{Walked, walk-none, walk-next, walk-map, walk-all}
 use Rattle.judging.specs.Graph.{missing, Valid}
 use Rattle.judging.specs.Plex.{Plex}
@@ -34,11 +34,11 @@ Blocked g k s v r = (u : ℕ) → In u s → bit (row g v) u ≡ 0 → k ≤ mis
 abbrev pub Cheap : List ℕ → ℕ → ℕ → ℕ → ℕ → Type 0
 Cheap g k s v r = (w : ℕ) → In w r → bit (row g v) w ≡ 0 → missing g s w < k
 
--- what `trim` leaves of the candidates c beside the set s, to which v came last
-pub record Trimmed (g : List ℕ) (k q s v c r : ℕ) : Type 0 where
-  pub kept : Kept g k q s c r
-  pub blocked : Blocked g k s v r
-  pub cheap : Cheap g k s v r
+-- what is left of the candidates c once v joins s
+pub record Beside (g : List ℕ) (k q s c v r : ℕ) : Type 0 where
+  pub kept : Kept g k q (with s v) (without c v) r
+  pub blocked : Blocked g k (with s v) v r
+  pub cheap : Cheap g k (with s v) v r
 
 module _ (g : List ℕ) (k q s : ℕ) where
   pub kept-all : (c : ℕ) → Kept g k q s c c
@@ -259,22 +259,64 @@ pub record Cheapened (g : List ℕ) (k s v c r : ℕ) : Type 0 where
   pub kept : (q : ℕ) → Kept g k q s c r
   pub cheap : Cheap g k s v r
 
-module _ (g : List ℕ) (k s v c d r : ℕ) where
-  pub still-trimmable : Trimmable g s c v → Unblocked g k s v c d → Trimmable g s d v
-  still-trimmable h a =
-      record {
-        most = h .most;
-        valid = h .valid;
-        below = h .below;
-        candidates = sub-below (length g) d c (a .kept 0 .part) (h .candidates);
-        apart = λ w i. h .apart w (in-of-sub d c w (a .kept 0 .part) i);
-        vertex = h .vertex;
-      }
+pub still-trimmable : (g : List ℕ) (k s v c d : ℕ) → Trimmable g s c v → Unblocked g k s v c d → Trimmable g s d v
+still-trimmable g k s v c d h a =
+    record {
+      most = h .most;
+      valid = h .valid;
+      below = h .below;
+      candidates = sub-below (length g) d c (a .kept 0 .part) (h .candidates);
+      apart = λ w i. h .apart w (in-of-sub d c w (a .kept 0 .part) i);
+      vertex = h .vertex;
+    }
 
-  pub trimmed-both : Unblocked g k s v c d → Cheapened g k s v d r → (q : ℕ) → Trimmed g k q s v c r
-  trimmed-both a b q =
-      record {
-        kept = kept-trans g k q s c d r (a .kept q) (b .kept q);
-        blocked = λ u i far m. sub-trans r d (row g u) (b .kept 0 .part) (a .blocked u i far m);
-        cheap = b .cheap;
-      }
+-- ---- a candidate joins
+
+pub record Joinable (g t : List ℕ) (s c v : ℕ) : Type 0 where
+  pub most : length g ≤ width
+  pub long : length g ≤ length t
+  pub valid : Valid g
+  pub below : s < 2 ^ length g
+  pub candidates : c < 2 ^ length g
+  pub apart : (w : ℕ) → In w c → bit s w ≡ 0
+  pub member : In v c
+
+module _ (g t : List ℕ) (s c v : ℕ) (h : Joinable g t s c v) where
+  pub joinable-vertex : v < length g
+  joinable-vertex = in-below (length g) c v (h .candidates) (h .member)
+
+  module _ (j d : ℕ) (e : j ≡ with s v) (f : d ≡ bitAnd (without c v) (row t v)) where
+    pub near-trimmable : Trimmable g j d v
+    near-trimmable =
+        subst (λ (x : ℕ). Trimmable g x d v) (sym e)
+        (subst (λ (x : ℕ). Trimmable g (with s v) x v) (sym f)
+        (record {
+          most = h .most;
+          valid = h .valid;
+          below = with-below (length g) s v (h .below) joinable-vertex;
+          candidates = and-below (length g) (without c v) (row t v) (minus-below (length g) c (2 ^ v) (h .candidates));
+          apart = apart-out;
+          vertex = joinable-vertex;
+        }))
+      where
+        apart-out : (w : ℕ) → In w (bitAnd (without c v) (row t v)) → bit (with s v) w ≡ 0
+        apart-out w i =
+            let out : In w (without c v) = omega (arith, bit-and (without c v) (row t v) w, bit-le (without c v) w) in
+            let inc : In w c = in-of-sub (without c v) c w (minus-sub c (2 ^ v)) out in
+            let differ : v ≢ w = λ z. omega (arith, out, subst (λ (y : ℕ). bit (without c v) y ≡ 0) z (without-same c v)) in
+            omega (arith, with-other s v w differ, h .apart w inc)
+
+    pub beside-all : (k d2 r : ℕ) → Unblocked g k j v d d2 → Cheapened g k j v d2 r → (q : ℕ) → Near g k q t → Beside g k q s c v r
+    beside-all k d2 r a b q near =
+        subst (λ (x : ℕ). Unblocked g k x v d d2 → Cheapened g k x v d2 r → Beside g k q s c v r) (sym e) joined a b
+      where
+        joined : Unblocked g k (with s v) v d d2 → Cheapened g k (with s v) v d2 r → Beside g k q s c v r
+        joined a b =
+            record {
+              kept =
+                kept-trans g k q (with s v) (without c v) d r
+                  (subst (Kept g k q (with s v) (without c v)) (sym f) (kept-near g k q (with s v) t (without c v) v joinable-vertex (with-same s v) (without-same c v) near))
+                  (kept-trans g k q (with s v) d d2 r (a .kept q) (b .kept q));
+              blocked = λ u i far m. sub-trans r d2 (row g u) (b .kept 0 .part) (a .blocked u i far m);
+              cheap = b .cheap;
+            }

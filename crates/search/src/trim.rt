@@ -1,6 +1,7 @@
 // Candidates that no listed plex holds beside the set s, to which v came last, are dropped.
 ghost use Rattle.sets.specs.Words.{mask, masks};
-ghost use Rattle.search.specs.TrimLaws.{Trimmable, Trimmed, Unblocked, Cheapened};
+ghost use Rattle.search.specs.TrimLaws.{Trimmable, Unblocked, Cheapened, Joinable, Beside};
+ghost use Rattle.search.specs.Found.{Near};
 ghost use Prim.Native.Nat.{ℕ};
 use sets::Set;
 
@@ -38,10 +39,13 @@ pub fn drop_dear(rows: &[u64], k: usize, s: Set, c: Set, v: usize) -> Set
     kept
 }
 
-// Drops both.
-pub fn trim(rows: &[u64], k: usize, s: Set, c: Set, v: usize) -> Set
-    requires { ⌜ Trimmable (masks (now rows)) (mask s) (mask c) v ⌝ }
-    ensures { λ r. ⌜ ((q : ℕ) → Trimmed (masks (now (rows .entry))) k q (mask s) v (mask c) (mask r)) ⌝ }
+// What is left of the candidates c once v, one of them, joins s: those in the near row of v, less both.
+pub fn beside(rows: &[u64], near: &[u64], k: usize, s: Set, c: Set, v: usize) -> Set
+    requires { ⌜ Joinable (masks (now rows)) (masks (now near)) (mask s) (mask c) v ⌝ }
+    ensures { λ r. ⌜ ((q : ℕ) → Near (masks (now (rows .entry))) k q (masks (now (near .entry)))
+        → Beside (masks (now (rows .entry))) k q (mask s) (mask c) v (mask r)) ⌝ }
 {
-    drop_dear(rows, k, s, drop_blocked(rows, k, s, c, v), v)
+    let joined = sets::with(s, v);
+    let close = sets::meet(sets::without(c, v), sets::get(near, v));
+    drop_dear(rows, k, joined, drop_blocked(rows, k, joined, close, v), v)
 }

@@ -53,6 +53,9 @@ true-holds b e = subst T (sym e) tt
 pub false-fails : (b : Bool) → b ≡ false → T b → ⊥
 false-fails b e t = subst T e t
 
+pub true-is-not-false : true ≡ false → ⊥
+true-is-not-false e = subst T e tt
+
 -- ---- membership
 
 abbrev pub Mem : ℕ → List ℕ → Type 0

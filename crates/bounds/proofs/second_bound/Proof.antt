@@ -1,0 +1,40 @@
+-- `bounds::second_bound` meets its contract: the checks decide first, and then the bound.
+use mathlib.Core.Path.{sym, ap, _∙_}
+use Rattle.judging.specs.Refusal.{answered}
+use Rattle.judging.specs.CallLaws.{check-failed, check-passed, none-holds}
+use Rattle.bounds.specs.BoundCalls.{secondBoundReply}
+use Rattle.bounds.specs.BoundCallLaws.{bound-checked}
+use borrow.Author.Needs.{needs}
+use Rattle.bounds.proofs.second_bound.Statement.{statement}
+use Rattle.bounds.proofs.second_bound.Tie as tie
+
+check-bound-requires : tie.Need-check-bound-requires
+check-bound-requires c κs = search needs
+
+enum-known-checked : tie.Need-enum-known-checked
+enum-known-checked c = search needs
+
+returns : tie.Need-returns
+unfolding secondBoundReply
+returns c = check-failed _ (c .before .before .before .check-bound .result) (c .before .before .before .check-bound .ensures) (c .before .checked .given .0 .0) _ (c .before .checked .given .1)
+
+enum-told : tie.Need-enum-told
+enum-told c = search needs
+
+second-bound-requires : tie.Need-second-bound-requires
+second-bound-requires c κs = bound-checked _ _ _ _ _ (none-holds _ (c .before .before .check-bound .result) (c .before .before .check-bound .ensures) (c .enum-told .given .1))
+
+returns-2 : tie.Need-returns-2
+unfolding secondBoundReply
+returns-2 c = ap (answered 0) (c .second-bound .ensures) ∙ sym (check-passed _ (c .before .before .before .check-bound .result) (c .before .before .before .check-bound .ensures) _ (c .before .enum-told .given .1))
+
+pub second-bound-spec : {M : Type 1} → statement M
+second-bound-spec =
+    tie.close
+    (tie.spec
+    check-bound-requires
+    enum-known-checked
+    returns
+    enum-told
+    second-bound-requires
+    returns-2)

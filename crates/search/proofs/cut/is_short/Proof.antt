@@ -1,0 +1,28 @@
+-- `search::cut::is_short` meets its contract: the size decides first, and then the partition bound where it is asked.
+use native.Mathlib.Omega.{arith}
+use mathlib.Core.Path.{sym}
+use denote.Ref.{now}
+use Rattle.sets.specs.Words.{mask, masks}
+use Rattle.sets.specs.RangeLaws.{true-is-not-false}
+use Rattle.search.specs.FoundLaws.{small-short}
+use borrow.Author.Needs.{needs}
+use Rattle.search.proofs.cut.is_short.Statement.{statement}
+use Rattle.search.proofs.cut.is_short.Tie as tie
+
+size-requires : tie.Need-size-requires
+size-requires c κs = search needs
+
+returns : tie.Need-returns
+returns c = (λ _. small-short (masks (now (c .before .before .before .args .rows))) (c .before .before .before .args .k) (c .before .before .before .args .q) (mask (c .before .before .before .args .s)) 0 (mask (c .before .before .before .args .a)) (omega (arith, c .if1 .taken, c .before .size .ensures .0)), λ e. absurd (true-is-not-false e))
+
+falls-short-requires : tie.Need-falls-short-requires
+falls-short-requires c κs = search needs
+
+returns-2 : tie.Need-returns-2
+returns-2 c = (c .falls-short .ensures, λ _. omega (arith, c .before .before .if1 .left, c .before .before .before .size .ensures .0))
+
+returns-3 : tie.Need-returns-3
+returns-3 c = (λ e. absurd (true-is-not-false (sym e)), λ _. omega (arith, c .before .if1 .left, c .before .before .size .ensures .0))
+
+pub is-short-spec : {M : Type 1} → statement M
+is-short-spec = tie.close (tie.spec size-requires returns falls-short-requires returns-2 returns-3)

@@ -1,0 +1,196 @@
+-- What the recursive search relies on, and what it hands on to its branches.
+--
+--   Settled g t k q          what stays put: a valid graph that sets can hold, numbers within range, and a table of near rows
+--   Ready g t k q s c count  the same, candidates c that are compatible with s, and room to count what is to be added
+--   unless b x               the mask x alone, and nothing where b is true
+use Prim.Native.Nat.{ℕ, _+_, _^_, _≤_, _<_}
+use native.Mathlib.Omega.{arith}
+use mathlib.Core.Path.{_≡_, refl, sym, ap, _∙_, subst}
+use mathlib.Core.Bool.{Bool, true, false, not, _&&_}
+use mathlib.Core.List.{List}
+use lib.Dec.{T, eqb, eqb→eq, eqb-refl}
+use lib.Bits.{bitAnd, bitOr, or-lt}
+use lib.ListN.{length}
+use Rattle.sets.specs.Set.{bit, In, Sub, size, with, without, minus}
+use Rattle.sets.specs.Graph.{row}
+use Rattle.sets.specs.Words.{width}
+use Rattle.sets.specs.BitLaws.{bit-le, bit-and, bit-or}
+use Rattle.sets.specs.SubsetLaws.{sub-trans, sub-number, in-of-sub, in-below, minus-sub, with-same, with-other, with-below, without-same}
+use Rattle.sets.specs.SizeLaws.{and-below, minus-below}
+use Rattle.sets.specs.WalkLaws.{without-less}
+use Rattle.judging.specs.Graph.{Valid}
+use Rattle.judging.specs.Refusal.{mostSlack}
+use Rattle.judging.specs.Plex.{Plex, unblocked, swallowed}
+use Rattle.judging.specs.Setting.{Inside}
+use Rattle.search.specs.Found.{found, Found, Empty, Compatible, Short, Bounding, Near}
+use Rattle.search.specs.FoundLaws.{found-holds, found-test, cut-none, swallowed-empty, leaf-found, leaf-only, branches, branches-apart, branch-without}
+use Rattle.search.specs.Partition.{Between}
+use Rattle.search.specs.Placing.{number, union, only, Apart, Adds}
+use Rattle.search.specs.PlacingLaws.{same-test, number-same, number-only, number-union, adds-none, adds-same, adds-both}
+use Rattle.search.specs.TrimLaws.{Joinable, Beside, trimmed-compatible}
+
+pub record Settled (g t : List ℕ) (k q : ℕ) : Type 0 where
+  pub some : 1 ≤ length g
+  pub most : length g ≤ width
+  pub valid : Valid g
+  pub slack : (1 ≤ k) × (k ≤ mostSlack)
+  pub floor : q ≤ width
+  pub long : length g ≤ length t
+  pub near : Near g k q t
+
+pub record Ready (g t : List ℕ) (k q s c count : ℕ) : Type 0 where
+  pub settled : Settled g t k q
+  pub fine : Compatible g k s c
+  pub room : count + number (2 ^ length g) (found g k q s c) < 2 ^ 64
+
+-- what a leaf relies on: free are the vertices that no member of a blocks, and there is room to count a
+pub record LeafReady (g : List ℕ) (k a free count : ℕ) : Type 0 where
+  pub below : a < 2 ^ length g
+  pub unblocking : free ≡ unblocked g k a
+  pub room : (T (swallowed g k a) → ⊥) → count + 1 < 2 ^ 64
+
+abbrev pub unless : Bool → ℕ → ℕ → Bool
+unless b x y = not b && eqb y x
+
+module _ (g t : List ℕ) (k q s c count : ℕ) (h : Ready g t k q s c count) where
+  whole-below : bitOr s c < 2 ^ length g
+  whole-below = or-lt (length g) s c (h .fine .below) (h .fine .candidates)
+
+  pub ready-between : (a : ℕ) → a ≡ bitOr s c → Between g s a
+  ready-between a e = subst (Between g s) (sym e) (record { below = whole-below; part = λ v. omega (arith, bit-or s c v) })
+
+  pub ready-inside : (a : ℕ) → a ≡ bitOr s c → Inside g a
+  ready-inside a e = subst (Inside g) (sym e) (record { some = h .settled .some; most = h .settled .most; below = whole-below })
+
+  -- ---- a leaf
+
+  module _ (a : ℕ) (e : a ≡ bitOr s c) (p : Plex g k a) (l : q ≤ size a) where
+    -- what the leaf adds
+    pub leaf-adds : (y : ℕ) → y < 2 ^ length g → unless (swallowed g k a) a y ≡ found g k q s c y
+    leaf-adds = subst (λ (x : ℕ). Plex g k x → q ≤ size x → (y : ℕ) → y < 2 ^ length g → unless (swallowed g k x) x y ≡ found g k q s c y) (sym e) whole p l
+      where
+        whole : Plex g k (bitOr s c) → q ≤ size (bitOr s c) → (y : ℕ) → y < 2 ^ length g → unless (swallowed g k (bitOr s c)) (bitOr s c) y ≡ found g k q s c y
+        whole p l y ly = go (swallowed g k (bitOr s c)) (λ t. t) (λ t. t)
+          where
+            go : (b : Bool) → (T b → T (swallowed g k (bitOr s c))) → (T (swallowed g k (bitOr s c)) → T b) → unless b (bitOr s c) y ≡ found g k q s c y
+            go true into back = same-test false (found g k q s c y) (λ z. absurd z) (λ z. swallowed-empty g k q s c (h .settled .valid) (into tt) y (found-holds g k q s c y ly z))
+            go false into back =
+                same-test (eqb y (bitOr s c)) (found g k q s c y)
+                (λ z. subst (λ (x : ℕ). T (found g k q s c x)) (sym (eqb→eq y (bitOr s c) z)) (leaf-found g k q s c (h .settled .valid) whole-below p back l))
+                (λ z. subst (λ (x : ℕ). T (eqb y x)) (leaf-only g k q s c (h .settled .valid) whole-below p back l y ly z) (eqb-refl y))
+
+    pub leaf-room : (T (swallowed g k a) → ⊥) → count + 1 < 2 ^ 64
+    leaf-room n =
+        omega (
+          arith,
+          h .room,
+          number-same (2 ^ length g) (unless (swallowed g k a) a) (found g k q s c) leaf-adds,
+          number-same (2 ^ length g) (only a) (unless (swallowed g k a) a) (λ y l. alone (swallowed g k a) n y),
+          number-only (2 ^ length g) a (subst (λ (x : ℕ). x < 2 ^ length g) (sym e) whole-below),
+        )
+      where
+        alone : (b : Bool) → (T b → ⊥) → (y : ℕ) → only a y ≡ unless b a y
+        alone true f y = absurd (f tt)
+        alone false f y = refl
+
+  -- ---- the two branches
+
+  module _ (v : ℕ) (i : In v c) where
+    vertex : v < length g
+    vertex = in-below (length g) c v (h .fine .candidates) i
+
+    pub ready-joinable : Joinable g t s c v
+    ready-joinable =
+        record {
+          most = h .settled .most;
+          long = h .settled .long;
+          valid = h .settled .valid;
+          below = h .fine .below;
+          candidates = h .fine .candidates;
+          apart = h .fine .apart;
+          member = i;
+        }
+
+    module _ (r : ℕ) (m : Beside g k q s c v r) where
+      with-compatible : Compatible g k (with s v) r
+      with-compatible = trimmed-compatible g k s c v r (h .settled .valid) (h .fine) i (m .kept .part) (m .blocked) (m .cheap)
+
+      shared : number (2 ^ length g) (found g k q (with s v) r) + number (2 ^ length g) (found g k q s (without c v)) ≡ number (2 ^ length g) (found g k q s c)
+      shared =
+          sym (number-union (2 ^ length g) (found g k q (with s v) r) (found g k q s (without c v)) (branches-apart g k q s c v r i (h .fine .apart v i) (m .kept)))
+          ∙ number-same (2 ^ length g) (union (found g k q (with s v) r) (found g k q s (without c v))) (found g k q s c) (branches g k q s c v r i (h .fine .apart v i) (m .kept))
+
+      pub with-bounding : Bounding g k s r v
+      with-bounding =
+          record {
+            most = h .settled .most;
+            valid = h .settled .valid;
+            slack = h .settled .slack;
+            below = h .fine .below;
+            candidates = with-compatible .candidates;
+            vertex = vertex;
+            apart = with-compatible .apart;
+            out = h .fine .apart v i;
+            joined = h .fine .joined v i;
+          }
+
+      pub with-ready : Ready g t k q (with s v) r count
+      with-ready = record { settled = h .settled; fine = with-compatible; room = omega (arith, h .room, shared) }
+
+      pub with-falls : r < c
+      with-falls = omega (arith, sub-number r (without c v) (m .kept .part), without-less c v i)
+
+      pub branches-add : (before between after : List ℕ) (n o : ℕ)
+          → Adds (2 ^ length g) (found g k q (with s v) r) before count between n → Adds (2 ^ length g) (found g k q s (without c v)) between n after o
+          → Adds (2 ^ length g) (found g k q s c) before count after o
+      branches-add before between after n o x y =
+          adds-same (2 ^ length g) (union (found g k q (with s v) r) (found g k q s (without c v))) (found g k q s c) before after count o
+          (branches g k q s c v r i (h .fine .apart v i) (m .kept))
+          (adds-both (2 ^ length g) (found g k q (with s v) r) (found g k q s (without c v)) before between after count n o
+          (branches-apart g k q s c v r i (h .fine .apart v i) (m .kept)) x y)
+
+      without-compatible : Compatible g k s (without c v)
+      without-compatible =
+          record {
+            below = h .fine .below;
+            candidates = minus-below (length g) c (2 ^ v) (h .fine .candidates);
+            apart = λ w j. h .fine .apart w (in-of-sub (without c v) c w (minus-sub c (2 ^ v)) j);
+            plexed = h .fine .plexed;
+            joined = λ w j. h .fine .joined w (in-of-sub (without c v) c w (minus-sub c (2 ^ v)) j);
+          }
+
+      -- after the branch with v has counted n
+      pub without-ready : (n : ℕ) → n ≡ count + number (2 ^ length g) (found g k q (with s v) r) → Ready g t k q s (without c v) n
+      without-ready n z = record { settled = h .settled; fine = without-compatible; room = omega (arith, h .room, shared) }
+
+      -- where the branch with v is cut
+      module _ (cut : Empty g k q (with s v) r) where
+        pub skip-ready : Ready g t k q s (without c v) count
+        skip-ready =
+            record {
+              settled = h .settled;
+              fine = without-compatible;
+              room =
+                omega (
+                  arith,
+                  h .room,
+                  number-same (2 ^ length g) (found g k q s (without c v)) (found g k q s c) (branch-without g k q s c v r i (h .fine .apart v i) (m .kept) cut),
+                );
+            }
+
+        pub skip-adds : (before after : List ℕ) (o : ℕ) → Adds (2 ^ length g) (found g k q s (without c v)) before count after o
+            → Adds (2 ^ length g) (found g k q s c) before count after o
+        skip-adds before after o x =
+            adds-same (2 ^ length g) (found g k q s (without c v)) (found g k q s c) before after count o
+            (branch-without g k q s c v r i (h .fine .apart v i) (m .kept) cut) x
+
+-- ---- what the code of a leaf adds
+
+pub leaf-none : (g : List ℕ) (k a : ℕ) (slots : List ℕ) (count : ℕ) → swallowed g k a ≡ true → Adds (2 ^ length g) (unless (swallowed g k a) a) slots count slots count
+leaf-none g k a slots count e =
+    adds-none (2 ^ length g) (unless (swallowed g k a) a) slots count (λ y l z. subst (λ (b : Bool). T (unless b a y)) e z)
+
+pub leaf-one : (g : List ℕ) (k a : ℕ) (before after : List ℕ) (count r : ℕ) → swallowed g k a ≡ false → Adds (2 ^ length g) (only a) before count after r
+    → Adds (2 ^ length g) (unless (swallowed g k a) a) before count after r
+leaf-one g k a before after count r e x =
+    adds-same (2 ^ length g) (only a) (unless (swallowed g k a) a) before after count r (λ y l. ap (λ (b : Bool). unless b a y) (sym e)) x

@@ -1,0 +1,70 @@
+// The recursive search. The functions around it decide; this one only splits by a vertex.
+ghost use mathlib.Core.Path.{_≡_};
+ghost use Prim.Native.Nat.{_+_, _^_, _<_};
+ghost use lib.ListN.{length};
+ghost use Rattle.sets.specs.Words.{mask, masks};
+ghost use Rattle.judging.specs.Plex.{unblocked, swallowed};
+ghost use Rattle.search.specs.Found.{found};
+ghost use Rattle.search.specs.Placing.{Adds};
+ghost use Rattle.search.specs.Ready.{Ready, LeafReady, unless};
+
+use sets::Set;
+
+// Places the plex a, unless a vertex can be added to it.
+pub fn leaf(rows: &[u64], k: usize, a: Set, free: Set, slots: &mut [u64], count: usize) -> usize
+    requires { ⌜ LeafReady (masks (now rows)) k (mask a) (mask free) count ⌝ }
+    ensures { λ r. ⌜ Adds (2 ^ length (masks (now (rows .entry)))) (unless (swallowed (masks (now (rows .entry))) k (mask a)) (mask a))
+        (masks (now (slots .entry))) count (masks (now (slots .exit))) r ⌝ }
+{
+    if judging::plex::is_swallowed(rows, k, a, free) {
+        return count;
+    }
+    crate::place::insert(slots, count, a)
+}
+
+// Places every listed plex that holds s and has no member outside s and c, and gives the new count.
+// The switches are the partition bound, the swallow test and the second bound.
+pub fn branch(
+    rows: &[u64],
+    near: &[u64],
+    k: usize,
+    q: usize,
+    parted: bool,
+    swallow: bool,
+    second: bool,
+    s: Set,
+    c: Set,
+    slots: &mut [u64],
+    count: usize,
+) -> usize
+    requires { ⌜ Ready (masks (now rows)) (masks (now near)) k q (mask s) (mask c) count ⌝ }
+    ensures { λ r. ⌜ Adds (2 ^ length (masks (now (rows .entry)))) (found (masks (now (rows .entry))) k q (mask s) (mask c))
+        (masks (now (slots .entry))) count (masks (now (slots .exit))) r ⌝ }
+{
+    let a = sets::join(s, c);
+    if crate::cut::is_short(rows, k, q, parted, s, a) {
+        return count;
+    }
+    let seen = crate::survey::survey(rows, k, a);
+    let free = seen.free;
+    let worst = seen.worst;
+    if seen.most <= k {
+        return leaf(rows, k, a, free, slots, count);
+    }
+    if crate::cut::is_swallowed(rows, k, swallow, a, free) {
+        return count;
+    }
+    let from = crate::choice::among(rows, c, worst);
+    if sets::is_empty(from) {
+        return count;
+    }
+    let v = crate::choice::pick(rows, a, from);
+    let rest = sets::without(c, v);
+    let kept = crate::trim::beside(rows, near, k, s, c, v);
+    if crate::cut::is_bounded(rows, k, q, second, s, kept, v) {
+        return branch(rows, near, k, q, parted, swallow, second, s, rest, slots, count);
+    }
+    let joined = sets::with(s, v);
+    let taken = branch(rows, near, k, q, parted, swallow, second, joined, kept, slots, count);
+    branch(rows, near, k, q, parted, swallow, second, s, rest, slots, taken)
+}

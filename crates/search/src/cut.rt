@@ -1,0 +1,45 @@
+// Where a branch has nothing to add. Each cut but the size has a switch, and is right at either setting.
+ghost use mathlib.Core.Path.{_≡_};
+ghost use mathlib.Core.Bool.{true, false};
+ghost use Prim.Native.Nat.{_≤_};
+ghost use lib.Dec.{T};
+ghost use Rattle.sets.specs.Set.{size, with};
+ghost use Rattle.sets.specs.Words.{mask, masks};
+ghost use Rattle.judging.specs.Plex.{unblocked, swallowed};
+ghost use Rattle.search.specs.Found.{Short, Empty, Bounding};
+ghost use Rattle.search.specs.Partition.{Between};
+
+use sets::Set;
+
+// Has every plex between s and a fewer than q members: by the size of a, or by the partition bound?
+pub fn is_short(rows: &[u64], k: usize, q: usize, parted: bool, s: Set, a: Set) -> bool
+    requires { ⌜ Between (masks (now rows)) (mask s) (mask a) ⌝ }
+    ensures { λ r. ⌜ (r ≡ true → Short (masks (now (rows .entry))) k q (mask s) (mask a)) × (r ≡ false → q ≤ size (mask a)) ⌝ }
+{
+    if sets::size(a) < q {
+        return true;
+    }
+    if parted {
+        return crate::partition::falls_short(rows, k, q, s, a);
+    }
+    false
+}
+
+// Can a vertex outside a be added to every plex inside a? The vertices that no member of a blocks are given.
+pub fn is_swallowed(rows: &[u64], k: usize, swallow: bool, a: Set, free: Set) -> bool
+    requires { ⌜ mask free ≡ unblocked (masks (now rows)) k (mask a) ⌝ }
+    ensures { λ r. ⌜ (r ≡ true → T (swallowed (masks (now (rows .entry))) k (mask a))) ⌝ }
+{
+    if swallow {
+        return judging::plex::is_swallowed(rows, k, a, free);
+    }
+    false
+}
+
+// Has no listed plex that holds s and v, and no vertex outside s, v and c, at least q members: by the second bound?
+pub fn is_bounded(rows: &[u64], k: usize, q: usize, second: bool, s: Set, c: Set, v: usize) -> bool
+    requires { ⌜ Bounding (masks (now rows)) k (mask s) (mask c) v ⌝ }
+    ensures { λ r. ⌜ (r ≡ true → Empty (masks (now (rows .entry))) k q (with (mask s) v) (mask c)) ⌝ }
+{
+    false
+}
