@@ -1,11 +1,13 @@
 -- The core, the two-hop reach and the bounds: definitions first, then their laws.
 pub mod Core
 pub mod Reach
+pub mod Pair
 pub mod Bound
 pub mod Calls
 pub mod BoundCalls
 pub mod BoundSetting
 pub mod CoreLaws
+pub mod PairLaws
 pub mod ReachLaws
 pub mod CallLaws
 pub mod OrderLaws

@@ -1,29 +1,29 @@
--- Laws of the two-hop reach: which vertices it holds; two members of a large plex have a common neighbour, so a large plex lies in the reach of each member.
+-- Laws of the two-hop reach: which vertices it holds; a large plex lies in the reach of each member, as two members have a common neighbour.
 --
 --   Reaching g a left s   a walk through the neighbours of a in progress: those in left are still to come, and s is what was found so far
 use Prim.Native.Nat.{ℕ, _+_, _*_, _^_, _≤_, _<_}
 use native.Mathlib.Omega.{arith}
 use native.Mathlib.Decide.{ℕ-discrete}
 use mathlib.Core.Path.{_≡_, subst}
-use mathlib.Core.Logic.{_≢_, _⊎_, inl, inr}
+use mathlib.Core.Logic.{_⊎_, inl, inr}
 use mathlib.Core.Bool.{Bool, _||_}
 use mathlib.Core.List.{List}
 use lib.Bits.{bitOr, or-lt}
 use lib.Dec.{T, eqb, eqb→eq, eqb-refl}
 use lib.ListN.{length}
 use Rattle.sets.specs.Ranges.{any}
-use Rattle.sets.specs.Set.{bit, In, Sub, size, with, without, minus, members}
+use Rattle.sets.specs.Set.{bit, In, Sub, size, with, without, members}
 use Rattle.sets.specs.Graph.{row}
 use Rattle.sets.specs.RangeLaws.{or-cases, or-left, or-right}
-use Rattle.sets.specs.BitLaws.{bit-le, bit-or, bit-minus}
+use Rattle.sets.specs.BitLaws.{bit-le, bit-or}
 use Rattle.sets.specs.SubsetLaws.{sub-of-in, in-of-sub, in-below, sub-with, with-sub, with-same, with-below}
-use Rattle.sets.specs.SizeLaws.{size-or, missing-member}
 use Rattle.sets.specs.MemberLaws.{set-of-in, set-of-holds, set-of-below, set-of-unique, any-members, members-any}
 use Rattle.sets.specs.WalkLaws.{Walked, walk-none, walk-more, walk-map, walk-all}
-use Rattle.judging.specs.Graph.{adjacent, missing, Valid}
+use Rattle.judging.specs.Graph.{adjacent, Valid}
 use Rattle.judging.specs.Plex.{Plex}
-use Rattle.judging.specs.GraphLaws.{miss-both, adjacent-in, in-adjacent}
+use Rattle.judging.specs.GraphLaws.{adjacent-in, in-adjacent}
 use Rattle.bounds.specs.Reach.{reach}
+use Rattle.bounds.specs.PairLaws.{common-neighbour}
 
 -- ---- what the reach of a holds: a, its neighbours, and theirs
 
@@ -70,19 +70,6 @@ reach-below g a = set-of-below (near g a) (length g)
 
 -- ---- large plexes
 
--- 001, Lemma 1: two members of a plex of 2k - 1 or more vertices that are not adjacent have a common neighbour among the members
-pub common-neighbour : (g : List ℕ) (k s u v : ℕ) → Valid g → s < 2 ^ length g → Plex g k s → 2 * k ≤ size s + 1
-    → In u s → In v s → u ≢ v → bit (row g u) v ≡ 0 → (w : ℕ) × In w s × In w (row g u) × In w (row g v)
-unfolding missing
-common-neighbour g k s u v ok b p big hu hv ne nl =
-    let r = missing-member (bitOr (minus s (row g u)) (minus s (row g v))) s
-    (omega (arith, size-or (minus s (row g u)) (minus s (row g v)), p u (in-below (length g) s u b hu) hu, p v (in-below (length g) s v b hv) hv, miss-both g s u v ok b hu hv ne nl)) in
-    let e = bit-or (minus s (row g u)) (minus s (row g v)) (r .0) in
-    (r .0, r .2, near-to u (r .0) (omega (arith, e, r .1)) (r .2), near-to v (r .0) (omega (arith, e, r .1)) (r .2))
-  where
-    near-to : (a w : ℕ) → bit (minus s (row g a)) w ≡ 0 → In w s → In w (row g a)
-    near-to a w e h = omega (arith, bit-minus s (row g a) w, bit-le (row g a) w)
-
 -- a plex of 2k - 1 or more members lies in the reach of each member
 pub plex-reach : (g : List ℕ) (k s a : ℕ) → Valid g → s < 2 ^ length g → Plex g k s → 2 * k ≤ size s + 1 → In a s → Sub s (reach g a)
 unfolding reach near
@@ -96,7 +83,7 @@ plex-reach g k s a ok b p big ha =
     go v e (yes q) d = subst (λ (y : ℕ). T (near g a y)) q (near-self g a)
     go v e (no nq) (yes h) = near-one g a v h
     go v e (no nq) (no nh) =
-        let r = common-neighbour g k s a v ok b p big ha e nq (omega (arith, bit-le (row g a) v)) in
+        let r = common-neighbour g k ok s a v b p big ha e nq (omega (arith, bit-le (row g a) v)) in
         near-two g a v (r .0) (below (r .0) (r .1)) (r .2) (omega (arith, ok .mutually v (r .0) (below v e) (below (r .0) (r .1)), r .3))
 
 -- ---- a walk through the neighbours of a that joins their rows

@@ -5,9 +5,8 @@
 --   Empty g k q s c       nothing is to be added: the branch is cut
 --   Compatible g k s c    s is a plex, apart from c, and stays one with each candidate of c
 --   Short g k q s a       every plex between s and a has fewer than q members
---   Bounding g k s c v    what the second bound relies on
 --   Near g k q t          a listed plex that holds v has no member outside row v of the table t, but v
-use Prim.Native.Nat.{ℕ, _^_, _≤_, _<_}
+use Prim.Native.Nat.{ℕ, _^_, _<_}
 use mathlib.Core.Path.{_≡_}
 use mathlib.Core.Logic.{_≢_}
 use mathlib.Core.Bool.{Bool, _&&_}
@@ -16,9 +15,6 @@ use lib.Bits.{bitOr}
 use lib.ListN.{length}
 use Rattle.sets.specs.Set.{bit, In, Sub, size, subset, with}
 use Rattle.sets.specs.Graph.{row}
-use Rattle.sets.specs.Words.{width}
-use Rattle.judging.specs.Graph.{Valid}
-use Rattle.judging.specs.Refusal.{mostSlack}
 use Rattle.judging.specs.Plex.{Plex}
 use Rattle.search.specs.Listing.{listed, Listed}
 
@@ -45,15 +41,3 @@ Short g k q s a = (t : ℕ) → t < 2 ^ length g → Plex g k t → Sub s t → 
 
 abbrev pub Near : List ℕ → ℕ → ℕ → List ℕ → Type 0
 Near g k q t = (v x : ℕ) → v < length g → Listed g k q x → In v x → (u : ℕ) → In u x → u ≢ v → In u (row t v)
-
--- what the second bound relies on: a plex s within a valid graph, and beside it the vertex v and the candidates c
-pub record Bounding (g : List ℕ) (k s c v : ℕ) : Type 0 where
-  pub most : length g ≤ width
-  pub valid : Valid g
-  pub slack : (1 ≤ k) × (k ≤ mostSlack)
-  pub below : s < 2 ^ length g
-  pub candidates : c < 2 ^ length g
-  pub vertex : v < length g
-  pub apart : (w : ℕ) → In w c → bit (with s v) w ≡ 0
-  pub out : bit s v ≡ 0
-  pub joined : Plex g k (with s v)

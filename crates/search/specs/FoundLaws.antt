@@ -20,6 +20,9 @@ use Rattle.sets.specs.SizeLaws.{size-mono}
 use Rattle.judging.specs.Graph.{missing, Valid}
 use Rattle.judging.specs.Plex.{Plex, swallowed}
 use Rattle.judging.specs.SwallowLaws.{swallowed-none, unswallowed-maximal}
+use Rattle.bounds.specs.Bound.{secondBound}
+use Rattle.bounds.specs.BoundSetting.{Boundable}
+use Rattle.bounds.specs.BoundSound.{second-sound}
 use Rattle.search.specs.Listing.{listed}
 use Rattle.search.specs.ListingLaws.{listed-holds, listed-test}
 use Rattle.search.specs.Placing.{Apart, union}
@@ -166,3 +169,17 @@ module _ (g : List ℕ) (k q s c v r : ℕ) (e : In v c) (out : bit s v ≡ 0) (
       into : Found g k q s c x → Dec (bit x v ≡ 1) → T (found g k q s (without c v) x)
       into f (yes i) = absurd (no-with x (with-found x f i))
       into f (no ni) = found-test g k q s (without c v) x (without-found x f (omega (arith, bit-le x v)))
+
+-- the second bound for s, the candidates c with v, and v
+pub bounded-empty : (g : List ℕ) (k q s c v : ℕ) → Boundable g k s (with c v) v → secondBound g k s (with c v) v < q → Empty g k q (with s v) c
+bounded-empty g k q s c v b l x f =
+    omega (
+      arith,
+      f .listed .large,
+      second-sound g k s (with c v) v x (b .valid) (b .payable .inside .below) (f .listed .below) (f .listed .top .0)
+          (sub-trans s (with s v) x (sub-with s v) (f .lower)) (omega (arith, f .lower v, with-same s v, bit-le x v)) (λ u. go u (ℕ-discrete v u)) (b .apart),
+    )
+  where
+    go : (u : ℕ) → Dec (v ≡ u) → bit x u ≤ bit (bitOr s (with c v)) u
+    go u (yes z) = subst (λ (y : ℕ). bit x y ≤ bit (bitOr s (with c v)) y) z (omega (arith, bit-or s (with c v) v, with-same c v, bit-le x v))
+    go u (no nz) = omega (arith, f .upper u, bit-or (with s v) c u, with-other s v u nz, bit-or s (with c v) u, with-other c v u nz)

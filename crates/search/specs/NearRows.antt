@@ -1,30 +1,30 @@
 -- The tables of near rows, by which the search drops candidates once it has taken a vertex.
 --
---   common g s u v            how many members of s are adjacent to both u and v
 --   close g k q s v u         u and v have as many common neighbours in s as two members of one plex of q or more members of s (001, Lemma 3)
 --   pairRow g k q s v         the members of s, v aside, that are close to v
+--   nearRow g k q s r p v     row v by the strongest cut that is switched on, where r is the switch of the reach and p that of the pairs
 --   Pairable g k q s          what a pair row relies on: s is inside the graph, and the sums of the test are small
 --   Pairing g k q s           the same, of a valid graph, and s holds every listed plex
 --   Lent g t                  the lent table t has a row for each vertex
 --   Written f m before t      the first m rows of t are those of f, and t is as long as before
+--   NearAt g k q v r          r is a set of vertices, and holds all members, v aside, of each listed plex that holds v
 --   Filled g k q before t     t is as long as before, its rows are sets of vertices, and it is Near
 use Prim.Native.Nat.{ℕ, _+_, _*_, _^_, _≤_, _<_}
 use mathlib.Core.Path.{_≡_}
+use mathlib.Core.Logic.{_≢_}
 use mathlib.Core.Bool.{Bool, cond, _&&_}
 use mathlib.Core.List.{List}
-use lib.Bits.{bitAnd}
 use lib.Dec.{leb}
 use lib.ListN.{length}
-use Rattle.sets.specs.Set.{has, Sub, size, without, setOf}
+use Rattle.sets.specs.Set.{has, In, Sub, without, full, setOf}
 use Rattle.sets.specs.Graph.{row}
 use Rattle.sets.specs.Words.{width}
 use Rattle.judging.specs.Graph.{adjacent, Valid}
 use Rattle.judging.specs.Setting.{Sized, Inside}
+use Rattle.bounds.specs.Pair.{common}
+use Rattle.bounds.specs.Reach.{reach}
 use Rattle.search.specs.Listing.{Listed}
 use Rattle.search.specs.Found.{Near}
-
-unfoldable pub common : List ℕ → ℕ → ℕ → ℕ → ℕ
-common g s u v = size (bitAnd s (bitAnd (row g u) (row g v)))
 
 -- q - 2k common neighbours where they are adjacent, q - 2k + 2 where they are not
 unfoldable pub close : List ℕ → ℕ → ℕ → ℕ → ℕ → ℕ → Bool
@@ -32,6 +32,9 @@ close g k q s v u = leb (cond (adjacent g v u) q (q + 2)) (common g s v u + 2 * 
 
 unfoldable pub pairRow : List ℕ → ℕ → ℕ → ℕ → ℕ → ℕ
 pairRow g k q s v = setOf (length g) (λ u. has (without s v) u && close g k q s v u)
+
+unfoldable pub nearRow : List ℕ → ℕ → ℕ → ℕ → Bool → Bool → ℕ → ℕ
+nearRow g k q s r p v = cond p (pairRow g k q s v) (cond r (reach g v) (full (length g)))
 
 pub record Pairable (g : List ℕ) (k q s : ℕ) : Type 0 where
   pub inside : Inside g s
@@ -50,6 +53,10 @@ pub record Lent (g t : List ℕ) : Type 0 where
 pub record Written (f : ℕ → ℕ) (m : ℕ) (before t : List ℕ) : Type 0 where
   pub long : length t ≡ length before
   pub rows : (v : ℕ) → v < m → row t v ≡ f v
+
+pub record NearAt (g : List ℕ) (k q v r : ℕ) : Type 0 where
+  pub low : r < 2 ^ length g
+  pub near : (x : ℕ) → Listed g k q x → In v x → (u : ℕ) → In u x → u ≢ v → In u r
 
 pub record Filled (g : List ℕ) (k q : ℕ) (before t : List ℕ) : Type 0 where
   pub long : length t ≡ length before

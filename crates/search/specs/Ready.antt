@@ -5,6 +5,7 @@
 --   unless b x               the mask x alone, and nothing where b is true
 use Prim.Native.Nat.{ℕ, _+_, _^_, _≤_, _<_}
 use native.Mathlib.Omega.{arith}
+use native.Mathlib.Decide.{ℕ-discrete}
 use mathlib.Core.Path.{_≡_, refl, sym, ap, _∙_, subst}
 use mathlib.Core.Bool.{Bool, true, false, not, _&&_}
 use mathlib.Core.List.{List}
@@ -18,12 +19,13 @@ use Rattle.sets.specs.BitLaws.{bit-le, bit-and, bit-or}
 use Rattle.sets.specs.SubsetLaws.{sub-trans, sub-number, in-of-sub, in-below, minus-sub, with-same, with-other, with-below, without-same}
 use Rattle.sets.specs.SizeLaws.{and-below, minus-below}
 use Rattle.sets.specs.WalkLaws.{without-less}
-use Rattle.judging.specs.Graph.{Valid}
+use Rattle.judging.specs.Graph.{missing, Valid}
 use Rattle.judging.specs.Refusal.{mostSlack}
 use Rattle.judging.specs.Plex.{Plex, unblocked, swallowed}
 use Rattle.judging.specs.Setting.{Inside}
-use Rattle.search.specs.Found.{found, Found, Empty, Compatible, Short, Bounding, Near}
-use Rattle.search.specs.FoundLaws.{found-holds, found-test, cut-none, swallowed-empty, leaf-found, leaf-only, branches, branches-apart, branch-without}
+use Rattle.bounds.specs.BoundSetting.{Boundable}
+use Rattle.search.specs.Found.{found, Found, Empty, Compatible, Short, Near}
+use Rattle.search.specs.FoundLaws.{found-holds, found-test, cut-none, short-empty, stuck-empty, swallowed-empty, leaf-found, leaf-only, branches, branches-apart, branch-without}
 use Rattle.search.specs.Partition.{Between}
 use Rattle.search.specs.Placing.{number, union, only, Apart, Adds}
 use Rattle.search.specs.PlacingLaws.{same-test, number-same, number-only, number-union, adds-none, adds-same, adds-both}
@@ -61,6 +63,22 @@ module _ (g t : List ℕ) (k q s c count : ℕ) (h : Ready g t k q s c count) wh
 
   pub ready-inside : (a : ℕ) → a ≡ bitOr s c → Inside g a
   ready-inside a e = subst (Inside g) (sym e) (record { some = h .settled .some; most = h .settled .most; below = whole-below })
+
+  -- ---- cuts: nothing is added
+
+  cut-adds : Empty g k q s c → (slots : List ℕ) → Adds (2 ^ length g) (found g k q s c) slots count slots count
+  cut-adds none slots = adds-none (2 ^ length g) (found g k q s c) slots count (cut-none g k q s c none)
+
+  module _ (a : ℕ) (e : a ≡ bitOr s c) (slots : List ℕ) where
+    pub short-adds : Short g k q s a → Adds (2 ^ length g) (found g k q s c) slots count slots count
+    short-adds l = cut-adds (short-empty g k q s c (subst (Short g k q s) e l)) slots
+
+    pub swallowed-adds : T (swallowed g k a) → Adds (2 ^ length g) (found g k q s c) slots count slots count
+    swallowed-adds l = cut-adds (swallowed-empty g k q s c (h .settled .valid) (subst (λ (x : ℕ). T (swallowed g k x)) e l)) slots
+
+    pub stuck-adds : (w : ℕ) → In w a → k < missing g a w → (bit c w ≡ 0) × (minus c (row g w) ≡ 0) → Adds (2 ^ length g) (found g k q s c) slots count slots count
+    stuck-adds w i many z =
+        cut-adds (stuck-empty g k q s c w (subst (In w) e i) (z .0) (subst (λ (x : ℕ). k < missing g x w) e many) (z .1)) slots
 
   -- ---- a leaf
 
@@ -120,34 +138,27 @@ module _ (g t : List ℕ) (k q s c count : ℕ) (h : Ready g t k q s c count) wh
           sym (number-union (2 ^ length g) (found g k q (with s v) r) (found g k q s (without c v)) (branches-apart g k q s c v r i (h .fine .apart v i) (m .kept)))
           ∙ number-same (2 ^ length g) (union (found g k q (with s v) r) (found g k q s (without c v))) (found g k q s c) (branches g k q s c v r i (h .fine .apart v i) (m .kept))
 
-      pub with-bounding : Bounding g k s r v
-      with-bounding =
+      pub with-boundable : Boundable g k s (with r v) v
+      with-boundable =
           record {
-            most = h .settled .most;
+            payable = record { inside = record { some = h .settled .some; most = h .settled .most; below = h .fine .below }; slack = h .settled .slack .1; plex = h .fine .plexed };
             valid = h .settled .valid;
-            slack = h .settled .slack;
-            below = h .fine .below;
-            candidates = with-compatible .candidates;
+            some = h .settled .slack .0;
             vertex = vertex;
-            apart = with-compatible .apart;
-            out = h .fine .apart v i;
-            joined = h .fine .joined v i;
+            below = with-below (length g) r v (with-compatible .candidates) vertex;
+            apart = λ u j. out u j (ℕ-discrete v u);
           }
+        where
+          out : (u : ℕ) → In u (with r v) → Dec (v ≡ u) → bit s u ≡ 0
+          out u j (yes z) = subst (λ (y : ℕ). bit s y ≡ 0) z (h .fine .apart v i)
+          out u j (no nz) = omega (arith, with-other s v u nz, with-compatible .apart u (omega (arith, with-other r v u nz)))
 
-      pub with-ready : Ready g t k q (with s v) r count
-      with-ready = record { settled = h .settled; fine = with-compatible; room = omega (arith, h .room, shared) }
+      pub with-ready : (j : ℕ) → j ≡ with s v → Ready g t k q j r count
+      with-ready j z =
+          subst (λ (x : ℕ). Ready g t k q x r count) (sym z) (record { settled = h .settled; fine = with-compatible; room = omega (arith, h .room, shared) })
 
       pub with-falls : r < c
       with-falls = omega (arith, sub-number r (without c v) (m .kept .part), without-less c v i)
-
-      pub branches-add : (before between after : List ℕ) (n o : ℕ)
-          → Adds (2 ^ length g) (found g k q (with s v) r) before count between n → Adds (2 ^ length g) (found g k q s (without c v)) between n after o
-          → Adds (2 ^ length g) (found g k q s c) before count after o
-      branches-add before between after n o x y =
-          adds-same (2 ^ length g) (union (found g k q (with s v) r) (found g k q s (without c v))) (found g k q s c) before after count o
-          (branches g k q s c v r i (h .fine .apart v i) (m .kept))
-          (adds-both (2 ^ length g) (found g k q (with s v) r) (found g k q s (without c v)) before between after count n o
-          (branches-apart g k q s c v r i (h .fine .apart v i) (m .kept)) x y)
 
       without-compatible : Compatible g k s (without c v)
       without-compatible =
@@ -159,30 +170,50 @@ module _ (g t : List ℕ) (k q s c count : ℕ) (h : Ready g t k q s c count) wh
             joined = λ w j. h .fine .joined w (in-of-sub (without c v) c w (minus-sub c (2 ^ v)) j);
           }
 
-      -- after the branch with v has counted n
-      pub without-ready : (n : ℕ) → n ≡ count + number (2 ^ length g) (found g k q (with s v) r) → Ready g t k q s (without c v) n
-      without-ready n z = record { settled = h .settled; fine = without-compatible; room = omega (arith, h .room, shared) }
+      module _ (rest : ℕ) (e : rest ≡ without c v) where
+        pub without-falls : rest < c
+        without-falls = subst (λ (x : ℕ). x < c) (sym e) (without-less c v i)
 
-      -- where the branch with v is cut
-      module _ (cut : Empty g k q (with s v) r) where
-        pub skip-ready : Ready g t k q s (without c v) count
-        skip-ready =
-            record {
+        -- after the branch with v has counted n
+        pub without-ready : (j n : ℕ) → j ≡ with s v → n ≡ count + number (2 ^ length g) (found g k q j r) → Ready g t k q s rest n
+        without-ready j n z w =
+            subst (λ (x : ℕ). Ready g t k q s x n) (sym e)
+            (record {
               settled = h .settled;
               fine = without-compatible;
-              room =
-                omega (
-                  arith,
-                  h .room,
-                  number-same (2 ^ length g) (found g k q s (without c v)) (found g k q s c) (branch-without g k q s c v r i (h .fine .apart v i) (m .kept) cut),
-                );
-            }
+              room = omega (arith, h .room, shared, ap (λ (x : ℕ). number (2 ^ length g) (found g k q x r)) z);
+            })
 
-        pub skip-adds : (before after : List ℕ) (o : ℕ) → Adds (2 ^ length g) (found g k q s (without c v)) before count after o
+        pub branches-add : (j : ℕ) (before between after : List ℕ) (n o : ℕ) → j ≡ with s v
+            → Adds (2 ^ length g) (found g k q j r) before count between n → Adds (2 ^ length g) (found g k q s rest) between n after o
             → Adds (2 ^ length g) (found g k q s c) before count after o
-        skip-adds before after o x =
-            adds-same (2 ^ length g) (found g k q s (without c v)) (found g k q s c) before after count o
-            (branch-without g k q s c v r i (h .fine .apart v i) (m .kept) cut) x
+        branches-add j before between after n o z x y =
+            adds-same (2 ^ length g) (union (found g k q (with s v) r) (found g k q s (without c v))) (found g k q s c) before after count o
+            (branches g k q s c v r i (h .fine .apart v i) (m .kept))
+            (adds-both (2 ^ length g) (found g k q (with s v) r) (found g k q s (without c v)) before between after count n o
+            (branches-apart g k q s c v r i (h .fine .apart v i) (m .kept))
+            (subst (λ (u : ℕ). Adds (2 ^ length g) (found g k q u r) before count between n) z x)
+            (subst (λ (u : ℕ). Adds (2 ^ length g) (found g k q s u) between n after o) e y))
+
+        -- where the branch with v is cut
+        module _ (cut : Empty g k q (with s v) r) where
+          all-without : (x : ℕ) → x < 2 ^ length g → found g k q s (without c v) x ≡ found g k q s c x
+          all-without = branch-without g k q s c v r i (h .fine .apart v i) (m .kept) cut
+
+          pub skip-ready : Ready g t k q s rest count
+          skip-ready =
+              subst (λ (x : ℕ). Ready g t k q s x count) (sym e)
+              (record {
+                settled = h .settled;
+                fine = without-compatible;
+                room = omega (arith, h .room, number-same (2 ^ length g) (found g k q s (without c v)) (found g k q s c) all-without);
+              })
+
+          pub skip-adds : (before after : List ℕ) (o : ℕ) → Adds (2 ^ length g) (found g k q s rest) before count after o
+              → Adds (2 ^ length g) (found g k q s c) before count after o
+          skip-adds before after o x =
+              adds-same (2 ^ length g) (found g k q s (without c v)) (found g k q s c) before after count o all-without
+              (subst (λ (u : ℕ). Adds (2 ^ length g) (found g k q s u) before count after o) e x)
 
 -- ---- what the code of a leaf adds
 

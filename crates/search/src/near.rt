@@ -1,10 +1,10 @@
 // Tables of near rows: once the search has taken a vertex, it keeps no candidate outside the vertex's row.
 ghost use mathlib.Core.Path.{_≡_};
-ghost use Prim.Native.Nat.{ℕ, _+_, _*_, _<_, _≤_};
+ghost use Prim.Native.Nat.{_+_, _*_, _<_, _≤_};
 ghost use lib.ListN.{length};
 ghost use Rattle.sets.specs.Words.{mask, masks};
 ghost use Rattle.judging.specs.Graph.{Valid};
-ghost use Rattle.search.specs.NearRows.{close, pairRow, Pairable, Pairing, Lent, Filled};
+ghost use Rattle.search.specs.NearRows.{close, pairRow, nearRow, Pairable, Pairing, Lent, Filled};
 use sets::Set;
 
 // Have u and v as many common neighbours in the core as two members of one k-plex of q or more members have there?
@@ -37,58 +37,37 @@ pub fn pair_row(rows: &[u64], k: usize, q: usize, core: Set, v: usize) -> Set
     kept
 }
 
-// Nothing is dropped: every row holds all vertices.
-pub fn fill_all(rows: &[u64], near: &mut [u64])
-    requires { ⌜ Lent (masks (now rows)) (masks (now near)) ⌝ }
-    ensures { λ _. ⌜ ((k q : ℕ) → Filled (masks (now (rows .entry))) k q (masks (now (near .entry))) (masks (now (near .exit)))) ⌝ }
+// Row v of the table by the strongest cut that is switched on: its pair row, its two-hop reach, or all vertices.
+pub fn near_row(
+    rows: &[u64],
+    k: usize,
+    q: usize,
+    core: Set,
+    reach: bool,
+    pairs: bool,
+    v: usize,
+) -> Set
+    requires { ⌜ Pairable (masks (now rows)) k q (mask core) × Valid (masks (now rows)) × (v < length (masks (now rows))) ⌝ }
+    ensures { λ r. ⌜ mask r ≡ nearRow (masks (now (rows .entry))) k q (mask core) reach pairs v ⌝ }
 {
-    let n = sets::count(rows);
-    let all = sets::full(n);
-    let mut v = 0;
-    while v < n {
-        sets::put(near, v, all);
-        v += 1;
+    if pairs {
+        return pair_row(rows, k, q, core, v);
     }
+    if reach {
+        return bounds::reach::reach(rows, v);
+    }
+    sets::full(sets::count(rows))
 }
 
-// What is not in the two-hop reach of v is dropped: the row of v is its reach.
-pub fn fill_reach(rows: &[u64], near: &mut [u64])
-    requires { ⌜ Lent (masks (now rows)) (masks (now near)) × Valid (masks (now rows)) ⌝ }
-    ensures { λ _. ⌜ ((k q : ℕ) → 2 * k ≤ q + 1 → Filled (masks (now (rows .entry))) k q (masks (now (near .entry))) (masks (now (near .exit)))) ⌝ }
-{
-    let n = sets::count(rows);
-    let mut v = 0;
-    while v < n {
-        sets::put(near, v, bounds::reach::reach(rows, v));
-        v += 1;
-    }
-}
-
-// What is not close to v is dropped: the row of v is its pair row.
-pub fn fill_pairs(rows: &[u64], k: usize, q: usize, core: Set, near: &mut [u64])
-    requires { ⌜ Lent (masks (now rows)) (masks (now near)) × Pairing (masks (now rows)) k q (mask core) ⌝ }
-    ensures { λ _. ⌜ Filled (masks (now (rows .entry))) k q (masks (now (near .entry))) (masks (now (near .exit))) ⌝ }
-{
-    let n = sets::count(rows);
-    let mut v = 0;
-    while v < n {
-        sets::put(near, v, pair_row(rows, k, q, core, v));
-        v += 1;
-    }
-}
-
-// The table by the strongest cut that is switched on.
+// Writes the table row by row, by the strongest cut that is switched on.
 pub fn fill(rows: &[u64], k: usize, q: usize, core: Set, reach: bool, pairs: bool, near: &mut [u64])
     requires { ⌜ Lent (masks (now rows)) (masks (now near)) × Pairing (masks (now rows)) k q (mask core) × (2 * k ≤ q + 1) ⌝ }
     ensures { λ _. ⌜ Filled (masks (now (rows .entry))) k q (masks (now (near .entry))) (masks (now (near .exit))) ⌝ }
 {
-    if pairs {
-        fill_pairs(rows, k, q, core, near);
-        return;
+    let n = sets::count(rows);
+    let mut v = 0;
+    while v < n {
+        sets::put(near, v, near_row(rows, k, q, core, reach, pairs, v));
+        v += 1;
     }
-    if reach {
-        fill_reach(rows, near);
-        return;
-    }
-    fill_all(rows, near);
 }

@@ -119,3 +119,6 @@ sub-number a b h = omega (arith, and-le-l b a, ext (bitAnd b a) a (λ v. omega (
 
 pub sub-below : (n a b : ℕ) → Sub a b → b < 2 ^ n → a < 2 ^ n
 sub-below n a b h l = lt-of-le-of-lt (sub-number a b h) l
+
+pub positive-of : (s : ℕ) → (s ≡ 0 → ⊥) → 0 < s
+positive-of s ne = omega arith

@@ -1,36 +1,51 @@
--- `search::near::fill` meets its contract: each way of filling gives a near table at the slack and the floor of the search.
-use borrow.Author.Needs.{needs}
+-- `search::near::fill` meets its contract. After v turns the first v rows are those of the cut that is switched on, each of which is near.
+use Prim.Native.Nat.{_-_}
+use native.Mathlib.Omega.{arith}
+use Rattle.sets.specs.Words.{mask, masks}
+use Rattle.sets.specs.Words.Operations.{count-masks}
+use Rattle.search.specs.NearRows.{nearRow, Written}
+use Rattle.search.specs.NearLaws.{written-none, written-more, written-filled}
 use Rattle.search.proofs.near.fill.Statement.{statement}
 use Rattle.search.proofs.near.fill.Tie as tie
 
-fill-pairs-requires : tie.Need-fill-pairs-requires
-fill-pairs-requires c κs = search needs
+abbrev Inv-loop : tie.InvT-loop
+Inv-loop rows k q core reach pairs near₀ n v₀ near v = Written (nearRow (masks rows) k q (mask core) reach pairs) v (masks near₀) (masks near)
 
-same-length : tie.Need-same-length
-same-length c = search needs
+abbrev μ-loop : tie.MeasureT-loop
+μ-loop rows k q core reach pairs near₀ n v₀ near v = n - v
 
-returns : tie.Need-returns
-returns c = search needs
+count-requires : tie.Need-count-requires Inv-loop μ-loop
+count-requires c κs = tt
 
-fill-reach-requires : tie.Need-fill-reach-requires
-fill-reach-requires c κs = search needs
+loop-holds : tie.Need-loop-holds Inv-loop μ-loop
+loop-holds c = written-none _ _
 
-same-length-2 : tie.Need-same-length-2
-same-length-2 c = search needs
+near-row-requires : tie.Need-near-row-requires Inv-loop μ-loop
+near-row-requires c κs =
+    let pairing = c .before .before .before .before .before .before .pre .1 in
+    (pairing .pairable, pairing .valid, omega arith)
 
-returns-2 : tie.Need-returns-2
-returns-2 c = c .before .before .fill-reach .ensures _ _ (c .before .before .before .before .before .before .before .before .pre .2)
+put-requires : tie.Need-put-requires Inv-loop μ-loop
+put-requires c κs = omega arith
 
-fill-all-requires : tie.Need-fill-all-requires
-fill-all-requires c κs = search needs
+add-v : tie.Need-add-v Inv-loop μ-loop
+add-v c = omega arith
 
-same-length-3 : tie.Need-same-length-3
-same-length-3 c = search needs
+loop-less : tie.Need-loop-less Inv-loop μ-loop
+loop-less c = omega arith
 
-returns-3 : tie.Need-returns-3
-returns-3 c = c .before .before .fill-all .ensures _ _
+loop-again : tie.Need-loop-again Inv-loop μ-loop
+loop-again c =
+    let called = c .before .before in
+    written-more _ _ _ _ _ _ (omega arith) (called .before .near-row .ensures) (called .put .ensures) (called .before .before .before .before .loop .inv)
+
+same-length : tie.Need-same-length Inv-loop μ-loop
+same-length c = omega (arith, count-masks (c .before .loop .near), count-masks (c .before .before .before .before .before .args .near .now), c .before .loop .inv .long)
+
+returns : tie.Need-returns Inv-loop μ-loop
+returns c =
+    let pre = c .before .before .before .before .before .pre in
+    written-filled _ _ _ _ _ _ _ _ _ (pre .1) (pre .2) (omega arith) (c .before .loop .inv)
 
 pub fill-spec : {M : Type 1} → statement M
-fill-spec =
-    tie.close
-    (tie.spec fill-pairs-requires same-length returns fill-reach-requires same-length-2 returns-2 fill-all-requires same-length-3 returns-3)
+fill-spec = tie.close (tie.spec Inv-loop μ-loop count-requires loop-holds near-row-requires put-requires add-v loop-less loop-again same-length returns)

@@ -5,9 +5,9 @@ use borrow.Author.Tests.{not-true, not-false}
 use Rattle.sets.specs.Set.{without}
 use Rattle.sets.specs.SizeLaws.{minus-below}
 use Rattle.sets.specs.Words.{mask, masks}
-use Rattle.sets.specs.WalkLaws.{walk-falls, walk-below, walk-goes-on, walk-over}
+use Rattle.sets.specs.WalkLaws.{walk-falls, walk-below, walk-goes-on, walk-over, Sifted, sifted-none, sifted-keep, sifted-drop}
 use Rattle.search.specs.NearRows.{close}
-use Rattle.search.specs.NearLaws.{Sifted, sifted-none, sifted-keep, sifted-drop, sifted-row}
+use Rattle.search.specs.NearLaws.{sifted-row}
 use Rattle.search.proofs.near.pair_row.Statement.{statement}
 use Rattle.search.proofs.near.pair_row.Tie as tie
 

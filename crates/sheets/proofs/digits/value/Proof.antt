@@ -1,0 +1,36 @@
+-- `sheets::digits::value` meets its contract: each arm is a case of the definition.
+use Rattle.sheets.specs.DigitLaws.{value-figure, value-letter, value-below, value-amid, value-above}
+use native.Mathlib.Omega.{arith}
+use mathlib.Core.Path.{sym}
+use borrow.Author.Needs.{needs}
+use Rattle.sheets.proofs.digits.value.Statement.{statement}
+use Rattle.sheets.proofs.digits.value.Tie as tie
+
+cast-result : tie.Need-cast-result
+cast-result c = search needs
+
+sub-result : tie.Need-sub-result
+sub-result c = search needs
+
+cast-result-2 : tie.Need-cast-result-2
+cast-result-2 c = search needs
+
+returns : tie.Need-returns
+returns c = sym (value-figure (c .before .before .args .b) (omega arith) (omega arith))
+
+returns-2 : tie.Need-returns-2
+returns-2 c = sym (value-letter (c .before .before .before .before .args .b) (omega arith) (omega arith))
+
+returns-3 : tie.Need-returns-3
+returns-3 c = sym (value-below (c .before .args .b) (omega arith))
+
+returns-4 : tie.Need-returns-4
+returns-4 c = sym (value-amid (c .before .before .before .args .b) (omega arith) (omega arith))
+
+returns-5 : tie.Need-returns-5
+returns-5 c = sym (value-above (c .before .before .before .before .args .b) (omega arith))
+
+pub value-spec : {M : Type 1} → statement M
+value-spec =
+    tie.close
+    (tie.spec cast-result sub-result cast-result-2 returns returns-2 returns-3 returns-4 returns-5)

@@ -1,0 +1,222 @@
+-- Laws of digits: a digit and its byte are inverse, and so are a number and its digits, whatever the number of digits.
+use Prim.Native.Nat.{ℕ, zero, suc, _+_, _-_, _*_, _/_, _%_, _^_, _≤_, _<_}
+use native.Mathlib.Nat.{lt-of-lt-of-le, pow-le-pow-right, le-refl, not-suc-le-zero, le-of-suc-le-suc, zero-lt-suc, pow-suc, add-zero, zero-add, add-suc, suc-add}
+use native.Mathlib.Omega.{arith}
+use native.Mathlib.Numerals.{add-one}
+use native.Mathlib.Decide.{decLt, decLe}
+use mathlib.Core.Path.{_≡_, refl, sym, ap, ap₂, _∙_}
+use mathlib.Core.Bool.{Bool, true, false, _&&_, cond}
+use mathlib.Core.List.{List, [], _∷_, _++_, append-assoc, append-nil}
+use lib.Dec.{T, leb, ltb, ltb→lt, lt→ltb}
+use borrow.Author.Tests.{le-leb, lt-leb, lt-ltb, le-ltb}
+use lib.Arith.{digits-div, digits-mod, lt-one, le-zero}
+use lib.ListN.{length, getD, drop, set, length-append, drop-of-length-le}
+use lib.Seq.{drop-cons, getD-set-same, drop-set-lt, drop-length, lt-length-set}
+use Rattle.sets.specs.Ranges.{all}
+use Rattle.sets.specs.RangeLaws.{and-left, and-right, both}
+use Rattle.sheets.specs.Digits.{noDigit, wordDigits, between, digitValue, isDigit, digitByte, digits, numberFrom, number}
+
+-- ---- one digit
+
+between-inside : (lo hi b : ℕ) → lo ≤ b → b ≤ hi → between lo hi b ≡ true
+unfolding between
+between-inside lo hi b l h = ap₂ _&&_ (le-leb lo b l) (le-leb b hi h)
+
+between-below : (lo hi b : ℕ) → b < lo → between lo hi b ≡ false
+unfolding between
+between-below lo hi b l = ap (λ (x : Bool). x && leb b hi) (lt-leb lo b l)
+
+between-above : (lo hi b : ℕ) → hi < b → between lo hi b ≡ false
+unfolding between
+between-above lo hi b h = ap (λ (x : Bool). leb lo b && x) (lt-leb b hi h) ∙ never (leb lo b)
+  where
+    never : (x : Bool) → (x && false) ≡ false
+    never true = refl
+    never false = refl
+
+-- the value by the two tests
+value-by : (b : ℕ) (d l : Bool) → between 48 57 b ≡ d → between 65 70 b ≡ l → digitValue b ≡ cond d (b - 48) (cond l (b - 55) noDigit)
+unfolding digitValue
+value-by b d l p q = ap₂ (λ (x y : Bool). cond x (b - 48) (cond y (b - 55) noDigit)) p q
+
+pub value-figure : (b : ℕ) → 48 ≤ b → b ≤ 57 → digitValue b ≡ b - 48
+value-figure b l h = value-by b true false (between-inside 48 57 b l h) (between-below 65 70 b (omega arith))
+
+pub value-letter : (b : ℕ) → 65 ≤ b → b ≤ 70 → digitValue b ≡ b - 55
+value-letter b l h = value-by b false true (between-above 48 57 b (omega arith)) (between-inside 65 70 b l h)
+
+pub value-below : (b : ℕ) → b < 48 → digitValue b ≡ noDigit
+value-below b l = value-by b false false (between-below 48 57 b l) (between-below 65 70 b (omega arith))
+
+pub value-amid : (b : ℕ) → 57 < b → b < 65 → digitValue b ≡ noDigit
+value-amid b l h = value-by b false false (between-above 48 57 b l) (between-below 65 70 b h)
+
+pub value-above : (b : ℕ) → 70 < b → digitValue b ≡ noDigit
+value-above b h = value-by b false false (between-above 48 57 b (omega arith)) (between-above 65 70 b h)
+
+pub digit-below : (b : ℕ) → T (isDigit b) → digitValue b < noDigit
+unfolding isDigit
+digit-below b t = ltb→lt (digitValue b) noDigit t
+
+pub below-digit : (b : ℕ) → digitValue b < noDigit → T (isDigit b)
+unfolding isDigit
+below-digit b h = lt→ltb (digitValue b) noDigit h
+
+pub byte-figure : (d : ℕ) → d < 10 → digitByte d ≡ d + 48
+unfolding digitByte
+byte-figure d h = ap (λ (x : Bool). cond x (d + 48) (d + 55)) (lt-ltb d 10 h)
+
+pub byte-letter : (d : ℕ) → 10 ≤ d → digitByte d ≡ d + 55
+unfolding digitByte
+byte-letter d h = ap (λ (x : Bool). cond x (d + 48) (d + 55)) (le-ltb d 10 h)
+
+-- the byte of a digit has its value, and a byte that is a digit is the byte of its value
+pub value-byte : (d : ℕ) → d < noDigit → digitValue (digitByte d) ≡ d
+unfolding digitByte
+value-byte d h = go (decLt d 10)
+  where
+    go : Dec (d < 10) → digitValue (cond (ltb d 10) (d + 48) (d + 55)) ≡ d
+    go (yes l) = ap (λ (x : Bool). digitValue (cond x (d + 48) (d + 55))) (lt-ltb d 10 l) ∙ omega (arith, value-figure (d + 48) (omega arith) (omega arith))
+    go (no nl) = ap (λ (x : Bool). digitValue (cond x (d + 48) (d + 55))) (le-ltb d 10 (omega arith)) ∙ omega (arith, value-letter (d + 55) (omega arith) (omega arith))
+
+pub byte-value : (b : ℕ) → T (isDigit b) → digitByte (digitValue b) ≡ b
+unfolding digitByte
+byte-value b t = go (decLt b 48) (decLe b 57) (decLt b 65) (decLe b 70)
+  where
+    small : (v : ℕ) → digitValue b ≡ v → v < 10 → cond (ltb (digitValue b) 10) (digitValue b + 48) (digitValue b + 55) ≡ v + 48
+    small v e h = ap (λ (x : ℕ). cond (ltb x 10) (x + 48) (x + 55)) e ∙ ap (λ (x : Bool). cond x (v + 48) (v + 55)) (lt-ltb v 10 h)
+
+    large : (v : ℕ) → digitValue b ≡ v → 10 ≤ v → cond (ltb (digitValue b) 10) (digitValue b + 48) (digitValue b + 55) ≡ v + 55
+    large v e h = ap (λ (x : ℕ). cond (ltb x 10) (x + 48) (x + 55)) e ∙ ap (λ (x : Bool). cond x (v + 48) (v + 55)) (le-ltb v 10 h)
+
+    go : Dec (b < 48) → Dec (b ≤ 57) → Dec (b < 65) → Dec (b ≤ 70) → cond (ltb (digitValue b) 10) (digitValue b + 48) (digitValue b + 55) ≡ b
+    go (yes p) q r s = absurd (omega (arith, value-below b p, digit-below b t))
+    go (no np) (yes q) r s = omega (arith, small (b - 48) (value-figure b (omega arith) q) (omega arith))
+    go (no np) (no nq) (yes r) s = absurd (omega (arith, value-amid b (omega arith) r, digit-below b t))
+    go (no np) (no nq) (no nr) (yes s) = omega (arith, large (b - 55) (value-letter b (omega arith) s) (omega arith))
+    go (no np) (no nq) (no nr) (no ns) = absurd (omega (arith, value-above b (omega arith), digit-below b t))
+
+-- ---- digits in a list
+
+pub all-append : (p : ℕ → Bool) (xs ys : List ℕ) → T (all p xs) → T (all p ys) → T (all p (xs ++ ys))
+unfolding all
+all-append p [] ys s t = t
+all-append p (x ∷ xs) ys s t = both (p x) (all p (xs ++ ys)) (and-left (p x) (all p xs) s) (all-append p xs ys (and-right (p x) (all p xs) s) t)
+
+pub all-front : (p : ℕ → Bool) (xs ys : List ℕ) → T (all p (xs ++ ys)) → T (all p xs)
+unfolding all
+all-front p [] ys t = tt
+all-front p (x ∷ xs) ys t = both (p x) (all p xs) (and-left (p x) (all p (xs ++ ys)) t) (all-front p xs ys (and-right (p x) (all p (xs ++ ys)) t))
+
+pub all-back : (p : ℕ → Bool) (xs ys : List ℕ) → T (all p (xs ++ ys)) → T (all p ys)
+unfolding all
+all-back p [] ys t = t
+all-back p (x ∷ xs) ys t = all-back p xs ys (and-right (p x) (all p (xs ++ ys)) t)
+
+pub length-digits : (w x : ℕ) → length (digits w x) ≡ w
+unfolding digits
+length-digits zero x = refl
+length-digits (suc w) x = omega (arith, length-append (digits w (x / 16)) (digitByte (x % 16) ∷ []), length-digits w (x / 16))
+
+pub all-digits : (w x : ℕ) → T (all isDigit (digits w x))
+unfolding digits all
+all-digits zero x = tt
+all-digits (suc w) x =
+    all-append isDigit (digits w (x / 16)) (digitByte (x % 16) ∷ []) (all-digits w (x / 16))
+    (both (isDigit (digitByte (x % 16))) true (below-digit (digitByte (x % 16)) (omega (arith, value-byte (x % 16) (omega arith)))) tt)
+
+-- ---- a number and its digits
+
+number-from-append : (x : ℕ) (bs cs : List ℕ) → numberFrom x (bs ++ cs) ≡ numberFrom (numberFrom x bs) cs
+unfolding numberFrom
+number-from-append x [] cs = refl
+number-from-append x (b ∷ bs) cs = number-from-append (x * 16 + digitValue b) bs cs
+
+pub number-digits : (w x : ℕ) → x < 16 ^ w → number (digits w x) ≡ x
+unfolding number digits numberFrom
+number-digits zero x h = sym (lt-one h)
+number-digits (suc w) x h =
+    let d = x % 16 in
+    let low : x % 16 < noDigit = omega arith in
+    number-from-append 0 (digits w (x / 16)) (digitByte d ∷ [])
+    ∙ omega (arith, number-digits w (x / 16) (omega (arith, pow-suc 16 w)), value-byte (x % 16) low)
+
+-- the digits of the number that goes on from x with the digits bs are those of x and then bs
+digits-from : (w x : ℕ) (bs : List ℕ) → T (all isDigit bs) → digits (w + length bs) (numberFrom x bs) ≡ digits w x ++ bs
+unfolding numberFrom all digits
+digits-from w x [] t = ap (λ (n : ℕ). digits n x) (add-zero w) ∙ sym (append-nil (digits w x))
+digits-from w x (b ∷ bs) t =
+    let d = digit-below b (and-left (isDigit b) (all isDigit bs) t) in
+    ap (λ (n : ℕ). digits n (numberFrom (x * 16 + digitValue b) bs)) (add-suc w (length bs) ∙ sym (suc-add w (length bs)))
+    ∙ digits-from (suc w) (x * 16 + digitValue b) bs (and-right (isDigit b) (all isDigit bs) t)
+    ∙ append-assoc (digits w ((x * 16 + digitValue b) / 16)) (digitByte ((x * 16 + digitValue b) % 16) ∷ []) bs
+    ∙ ap₂ (λ (y z : ℕ). digits w y ++ digitByte z ∷ bs) (digits-div x d) (digits-mod x d)
+    ∙ ap (λ (y : ℕ). digits w x ++ y ∷ bs) (byte-value b (and-left (isDigit b) (all isDigit bs) t))
+
+pub digits-number : (bs : List ℕ) → T (all isDigit bs) → digits (length bs) (number bs) ≡ bs
+unfolding number digits
+digits-number bs t = ap (λ (n : ℕ). digits n (numberFrom 0 bs)) (sym (zero-add (length bs))) ∙ digits-from 0 0 bs t
+
+-- one digit more
+pub digit-more : (i x b : ℕ) → x < 16 ^ i → T (isDigit b) → x * 16 + digitValue b < 16 ^ suc i
+digit-more i x b h t = omega (arith, digit-below b t, pow-suc 16 i)
+
+-- ---- walks through digits, one a turn
+
+all-next : (p : ℕ → Bool) (t : List ℕ) (i : ℕ) → i < length t → all p (drop i t) ≡ (p (getD t i 0) && all p (drop (i + 1) t))
+unfolding all
+all-next p t i l = ap (all p) (drop-cons t i 0 l) ∙ ap (λ (n : ℕ). p (getD t i 0) && all p (drop n t)) (sym (add-one i))
+
+pub all-none : (p : ℕ → Bool) (t : List ℕ) (i : ℕ) → length t ≤ i → all p (drop i t) ≡ true
+unfolding all
+all-none p t i l = ap (all p) (drop-of-length-le t l)
+
+pub all-at : (p : ℕ → Bool) (t : List ℕ) (i : ℕ) → T (all p t) → i < length t → T (p (getD t i 0))
+unfolding all
+all-at p [] i s l = absurd (not-suc-le-zero l)
+all-at p (x ∷ t) zero s l = and-left (p x) (all p t) s
+all-at p (x ∷ t) (suc i) s l = all-at p t i (and-right (p x) (all p t) s) (le-of-suc-le-suc l)
+
+pub digits-pass : (t : List ℕ) (i : ℕ) → i < length t → digitValue (getD t i 0) < noDigit → all isDigit (drop i t) ≡ all isDigit (drop (i + 1) t)
+unfolding isDigit
+digits-pass t i l h = all-next isDigit t i l ∙ ap (λ (b : Bool). b && all isDigit (drop (i + 1) t)) (lt-ltb (digitValue (getD t i 0)) noDigit h)
+
+pub digits-stop : (t : List ℕ) (i : ℕ) → i < length t → noDigit ≤ digitValue (getD t i 0) → all isDigit (drop i t) ≡ false
+unfolding isDigit
+digits-stop t i l h = all-next isDigit t i l ∙ ap (λ (b : Bool). b && all isDigit (drop (i + 1) t)) (le-ltb (digitValue (getD t i 0)) noDigit h)
+
+pub number-next : (x : ℕ) (t : List ℕ) (i : ℕ) → i < length t → numberFrom x (drop i t) ≡ numberFrom (x * 16 + digitValue (getD t i 0)) (drop (i + 1) t)
+unfolding numberFrom
+number-next x t i l =
+    ap (numberFrom x) (drop-cons t i 0 l) ∙ ap (λ (n : ℕ). numberFrom (x * 16 + digitValue (getD t i 0)) (drop n t)) (sym (add-one i))
+
+pub number-end : (x : ℕ) (t : List ℕ) (i : ℕ) → length t ≤ i → numberFrom x (drop i t) ≡ x
+unfolding numberFrom
+number-end x t i l = ap (numberFrom x) (drop-of-length-le t l)
+
+-- a number that has room for one digit more in a word
+pub digit-room : (i x : ℕ) → x < 16 ^ i → i < wordDigits → x < 16 ^ 15
+digit-room i x h l = lt-of-lt-of-le h (pow-le-pow-right (zero-lt-suc 15) {i = i} {j = 15} (omega arith))
+
+-- the lowest digit goes to the last place that is left
+store-last : (l x : ℕ) (t : List ℕ) → l < length t → digits (suc l) x ++ drop (suc l) t ≡ digits l (x / 16) ++ drop l (set t l (digitByte (x % 16)))
+unfolding digits
+store-last l x t h =
+    append-assoc (digits l (x / 16)) (digitByte (x % 16) ∷ []) (drop (suc l) t)
+    ∙ ap (λ (u : List ℕ). digits l (x / 16) ++ u)
+    (ap₂ _∷_ (sym (getD-set-same t l (digitByte (x % 16)) 0 h)) (sym (drop-set-lt (suc l) t l (digitByte (x % 16)) (le-refl (suc l))))
+    ∙ sym (drop-cons (set t l (digitByte (x % 16))) l 0 (lt-length-set t l (digitByte (x % 16)) h)))
+
+pub digits-store : (left x b : ℕ) (t : List ℕ) → 0 < left → left ≤ length t → b ≡ digitByte (x % 16)
+    → digits left x ++ drop left t ≡ digits (left - 1) (x / 16) ++ drop (left - 1) (set t (left - 1) b)
+digits-store left x b t p h e =
+    let last : left ≡ suc (left - 1) = omega arith in
+    ap (λ (n : ℕ). digits n x ++ drop n t) last ∙ store-last (left - 1) x t (omega arith)
+    ∙ ap (λ (y : ℕ). digits (left - 1) (x / 16) ++ drop (left - 1) (set t (left - 1) y)) (sym e)
+
+pub digits-start : (x : ℕ) (t : List ℕ) → digits (length t) x ++ drop (length t) t ≡ digits (length t) x
+digits-start x t = ap (λ (u : List ℕ). digits (length t) x ++ u) (drop-length t) ∙ append-nil (digits (length t) x)
+
+pub digits-done : (left x : ℕ) (t : List ℕ) → left ≤ 0 → digits left x ++ drop left t ≡ t
+unfolding digits
+digits-done left x t l = ap (λ (n : ℕ). digits n x ++ drop n t) (le-zero l)

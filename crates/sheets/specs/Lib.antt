@@ -1,0 +1,15 @@
+-- Sheets: definitions first, then their laws.
+pub mod Digits
+pub mod Lines
+pub mod Sheet
+pub mod Calls
+pub mod Setting
+pub mod DigitLaws
+pub mod LineLaws
+pub mod CauseLaws
+pub mod SheetLaws
+pub mod HeadingLaws
+pub mod BodyLaws
+pub mod ReadLaws
+pub mod WriteLaws
+pub mod Examples

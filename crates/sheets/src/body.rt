@@ -1,0 +1,82 @@
+// The lines below line 1: row after row, one row a line.
+ghost use mathlib.Core.Path.{_≡_};
+ghost use mathlib.Core.List.{_++_};
+ghost use Prim.Native.Nat.{_*_, _≤_};
+ghost use lib.ListN.{length, drop};
+ghost use Rattle.sets.specs.Words.{width, masks};
+ghost use Rattle.judging.specs.Refusal.{firstOf};
+ghost use Rattle.judging.specs.Calls.{passed, checkedReply};
+ghost use Rattle.sheets.specs.Lines.{lines, rightLines, numbers};
+ghost use Rattle.sheets.specs.Sheet.{rowDigits, rowLength, bodyCauses};
+ghost use Rattle.sheets.specs.Setting.{RowLines, RowRoom};
+use crate::digits;
+use crate::lines;
+use judging::Checked;
+use judging::Refusal;
+use judging::check;
+
+const ROW_DIGITS: usize = 16;
+
+pub const ROW_LENGTH: usize = 17;
+
+// Of n rows, how many stand before the first wrong line.
+fn right_rows(text: &[u8], n: usize) -> usize
+    requires { ⌜ n ≤ width ⌝ }
+    ensures { λ r. ⌜ r ≡ rightLines rowDigits n (now (text .entry)) ⌝ }
+{
+    let mut a = 0;
+    while a < n {
+        if !lines::is_line(text, a * ROW_LENGTH, ROW_DIGITS) {
+            return a;
+        }
+        a += 1;
+    }
+    a
+}
+
+// Stores the rows of the text, as many as there is room for.
+pub fn store_rows(text: &[u8], rows: &mut [u64])
+    requires { ⌜ RowLines (length (masks (now rows))) (now text) ⌝ }
+    ensures { λ _. ⌜ masks (now (rows .exit)) ≡ numbers rowDigits (length (masks (now (rows .entry)))) (now (text .entry)) ⌝ }
+{
+    let n = sets::count(rows);
+    let mut a = 0;
+    while a < n {
+        let at = a * ROW_LENGTH;
+        let end = at + ROW_DIGITS;
+        sets::put(rows, a, digits::number(&text[at..end]));
+        a += 1;
+    }
+}
+
+// Writes the rows to the front of the text.
+pub fn write_rows(rows: &[u64], text: &mut [u8])
+    requires { ⌜ RowRoom (length (masks (now rows))) (now text) ⌝ }
+    ensures { λ _. ⌜ now (text .exit) ≡ lines rowDigits (masks (now (rows .entry))) ++ drop (length (masks (now (rows .entry))) * rowLength) (now (text .entry)) ⌝ }
+{
+    let n = sets::count(rows);
+    let mut a = 0;
+    while a < n {
+        let at = a * ROW_LENGTH;
+        let end = at + ROW_LENGTH;
+        lines::write_line(&mut text[at..end], sets::get(rows, a));
+        a += 1;
+    }
+}
+
+// Judges the lines of n rows without storing a row. Refusals: 8, 4, 5.
+pub fn check_body(text: &[u8], n: usize) -> Checked
+    requires { ⌜ (1 ≤ n) × (n ≤ width) ⌝ }
+    ensures { λ r. ⌜ checkedReply r ≡ firstOf (bodyCauses n (now (text .entry))) passed ⌝ }
+{
+    let a = right_rows(text, n);
+    if a < n {
+        return Checked::Failed(Refusal::Line(a + 2));
+    }
+    if n * ROW_LENGTH < text.len() {
+        return Checked::Failed(Refusal::Line(n + 2));
+    }
+    let mut table = [0u64; check::MOST_VERTICES];
+    store_rows(text, &mut table[..n]);
+    check::check_edges(&table[..n])
+}

@@ -1,0 +1,34 @@
+// Lines: digits, and byte 10 at their end.
+ghost use mathlib.Core.Path.{_≡_};
+ghost use Prim.Native.Nat.{_+_, _-_, _^_, _<_};
+ghost use lib.ListN.{length, drop};
+ghost use Rattle.sheets.specs.Digits.{digits};
+ghost use Rattle.sheets.specs.Lines.{line, isLine};
+use crate::digits;
+
+pub const NEWLINE: u8 = 10;
+
+// Does a line of `places` digits stand at the position `at` of the text? One cut short or missing does not.
+pub fn is_line(text: &[u8], at: usize, places: usize) -> bool
+    requires { ⌜ at + places < 2 ^ 64 ⌝ }
+    ensures { λ r. ⌜ r ≡ isLine places (drop at (now (text .entry))) ⌝ }
+{
+    let end = at + places;
+    if text.len() <= end {
+        return false;
+    }
+    if text[end] != NEWLINE {
+        return false;
+    }
+    digits::are_digits(&text[at..end])
+}
+
+// Fills the text with the last digits of x and the byte that ends a line.
+pub fn write_line(text: &mut [u8], x: u64)
+    requires { ⌜ 0 < length (now text) ⌝ }
+    ensures { λ _. ⌜ now (text .exit) ≡ line (digits (length (now (text .entry)) - 1) x) ⌝ }
+{
+    let end = text.len() - 1;
+    digits::write(&mut text[..end], x);
+    text[end] = NEWLINE;
+}
