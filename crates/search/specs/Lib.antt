@@ -14,3 +14,5 @@ pub mod PartitionLaws
 pub mod NearRows
 pub mod NearLaws
 pub mod Ready
+pub mod Calls
+pub mod TopLaws

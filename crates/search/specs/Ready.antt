@@ -10,24 +10,24 @@ use mathlib.Core.Path.{_≡_, refl, sym, ap, _∙_, subst}
 use mathlib.Core.Bool.{Bool, true, false, not, _&&_}
 use mathlib.Core.List.{List}
 use lib.Dec.{T, eqb, eqb→eq, eqb-refl}
-use lib.Bits.{bitAnd, bitOr, or-lt}
+use lib.Bits.{bitOr, or-lt}
 use lib.ListN.{length}
-use Rattle.sets.specs.Set.{bit, In, Sub, size, with, without, minus}
+use Rattle.sets.specs.Set.{bit, In, size, with, without, minus}
 use Rattle.sets.specs.Graph.{row}
 use Rattle.sets.specs.Words.{width}
-use Rattle.sets.specs.BitLaws.{bit-le, bit-and, bit-or}
-use Rattle.sets.specs.SubsetLaws.{sub-trans, sub-number, in-of-sub, in-below, minus-sub, with-same, with-other, with-below, without-same}
-use Rattle.sets.specs.SizeLaws.{and-below, minus-below}
+use Rattle.sets.specs.BitLaws.{bit-or}
+use Rattle.sets.specs.SubsetLaws.{sub-number, in-of-sub, in-below, minus-sub, with-other, with-below}
+use Rattle.sets.specs.SizeLaws.{minus-below}
 use Rattle.sets.specs.WalkLaws.{without-less}
 use Rattle.judging.specs.Graph.{missing, Valid}
 use Rattle.judging.specs.Refusal.{mostSlack}
 use Rattle.judging.specs.Plex.{Plex, unblocked, swallowed}
 use Rattle.judging.specs.Setting.{Inside}
 use Rattle.bounds.specs.BoundSetting.{Boundable}
-use Rattle.search.specs.Found.{found, Found, Empty, Compatible, Short, Near}
-use Rattle.search.specs.FoundLaws.{found-holds, found-test, cut-none, short-empty, stuck-empty, swallowed-empty, leaf-found, leaf-only, branches, branches-apart, branch-without}
+use Rattle.search.specs.Found.{found, Empty, Compatible, Short, Near}
+use Rattle.search.specs.FoundLaws.{found-holds, cut-none, short-empty, stuck-empty, swallowed-empty, leaf-found, leaf-only, branches, branches-apart, branch-without}
 use Rattle.search.specs.Partition.{Between}
-use Rattle.search.specs.Placing.{number, union, only, Apart, Adds}
+use Rattle.search.specs.Placing.{number, union, only, Adds}
 use Rattle.search.specs.PlacingLaws.{same-test, number-same, number-only, number-union, adds-none, adds-same, adds-both}
 use Rattle.search.specs.TrimLaws.{Joinable, Beside, trimmed-compatible}
 

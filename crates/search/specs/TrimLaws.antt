@@ -314,7 +314,7 @@ module _ (g t : List ℕ) (s c v : ℕ) (h : Joinable g t s c v) where
         joined a b =
             record {
               kept =
-                kept-trans g k q (with s v) (without c v) d r
+                  kept-trans g k q (with s v) (without c v) d r
                   (subst (Kept g k q (with s v) (without c v)) (sym f) (kept-near g k q (with s v) t (without c v) v joinable-vertex (with-same s v) (without-same c v) near))
                   (kept-trans g k q (with s v) d d2 r (a .kept q) (b .kept q));
               blocked = λ u i far m. sub-trans r d2 (row g u) (b .kept 0 .part) (a .blocked u i far m);

@@ -1,13 +1,11 @@
 // The recursive search. The functions around it decide; this one only splits by a vertex.
-ghost use mathlib.Core.Path.{_≡_};
-ghost use Prim.Native.Nat.{_+_, _^_, _<_};
+ghost use Prim.Native.Nat.{_^_};
 ghost use lib.ListN.{length};
 ghost use Rattle.sets.specs.Words.{mask, masks};
-ghost use Rattle.judging.specs.Plex.{unblocked, swallowed};
+ghost use Rattle.judging.specs.Plex.{swallowed};
 ghost use Rattle.search.specs.Found.{found};
 ghost use Rattle.search.specs.Placing.{Adds};
 ghost use Rattle.search.specs.Ready.{Ready, LeafReady, unless};
-
 use sets::Set;
 
 // Places the plex a, unless a vertex can be added to it.
@@ -62,9 +60,45 @@ pub fn branch(
     let rest = sets::without(c, v);
     let kept = crate::trim::beside(rows, near, k, s, c, v);
     if crate::cut::is_bounded(rows, k, q, second, s, kept, v) {
-        return branch(rows, near, k, q, parted, swallow, second, s, rest, slots, count);
+        return branch(
+            rows,
+            near,
+            k,
+            q,
+            parted,
+            swallow,
+            second,
+            s,
+            rest,
+            slots,
+            count,
+        );
     }
     let joined = sets::with(s, v);
-    let taken = branch(rows, near, k, q, parted, swallow, second, joined, kept, slots, count);
-    branch(rows, near, k, q, parted, swallow, second, s, rest, slots, taken)
+    let taken = branch(
+        rows,
+        near,
+        k,
+        q,
+        parted,
+        swallow,
+        second,
+        joined,
+        kept,
+        slots,
+        count,
+    );
+    branch(
+        rows,
+        near,
+        k,
+        q,
+        parted,
+        swallow,
+        second,
+        s,
+        rest,
+        slots,
+        taken,
+    )
 }

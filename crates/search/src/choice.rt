@@ -1,9 +1,7 @@
 // The vertex to branch on. Any candidate is right; these choices are the fast ones.
-ghost use mathlib.Core.Path.{_≡_};
-ghost use Prim.Native.Nat.{_<_, _≤_, _^_};
-ghost use lib.ListN.{length};
+ghost use Prim.Native.Nat.{_<_};
 ghost use Rattle.sets.specs.Set.{In};
-ghost use Rattle.sets.specs.Words.{width, mask, masks};
+ghost use Rattle.sets.specs.Words.{mask, masks};
 ghost use Rattle.search.specs.Choice.{Choosable, Among, Pickable};
 use sets::Set;
 

@@ -9,7 +9,6 @@ ghost use Rattle.judging.specs.Plex.{unblocked, swallowed};
 ghost use Rattle.bounds.specs.BoundSetting.{Boundable};
 ghost use Rattle.search.specs.Found.{Short, Empty};
 ghost use Rattle.search.specs.Partition.{Between};
-
 use sets::Set;
 
 // Has every plex between s and a fewer than q members: by the size of a, or by the partition bound?

@@ -1,4 +1,12 @@
 // The search for all maximal k-plexes, and the call that lists them.
+ghost use lib.ListN.{length};
+ghost use Prim.Native.Nat.{_^_};
+ghost use Rattle.sets.specs.Words.{mask, masks};
+ghost use Rattle.search.specs.Listing.{listed};
+ghost use Rattle.search.specs.Placing.{Adds};
+ghost use Rattle.search.specs.TopLaws.{Accepted, Candidates};
+ghost use Rattle.search.specs.Calls.{Lists};
+
 pub mod branch;
 pub mod choice;
 pub mod cut;
@@ -7,3 +15,96 @@ pub mod partition;
 pub mod place;
 pub mod survey;
 pub mod trim;
+
+use judging::Checked;
+use judging::Refusal;
+use judging::Request;
+use sets::Set;
+
+// The answer of the call that lists: m, or why it declines.
+pub enum ListFound {
+    Listed(usize),
+    Refused(Refusal),
+}
+
+// The cuts, each with its switch. Every setting gives the same list.
+pub struct Cuts {
+    pub core: bool,
+    pub reach: bool,
+    pub pairs: bool,
+    pub second: bool,
+    pub parted: bool,
+    pub swallow: bool,
+}
+
+// The vertices to start from: the core, or all.
+pub fn candidates(rows: &[u64], k: usize, q: usize, core: bool) -> Set
+    requires { ⌜ Accepted (masks (now rows)) k q ⌝ }
+    ensures { λ r. ⌜ Candidates (masks (now (rows .entry))) k q (mask r) ⌝ }
+{
+    if core {
+        return bounds::core::core(rows, q - k);
+    }
+    sets::full(sets::count(rows))
+}
+
+// Places every maximal k-plex of at least q members while the slots have room, and counts them all.
+pub fn enumerate(rows: &[u64], k: usize, q: usize, cuts: Cuts, slots: &mut [u64]) -> usize
+    requires { ⌜ Accepted (masks (now rows)) k q ⌝ }
+    ensures { λ r. ⌜ Adds (2 ^ length (masks (now (rows .entry)))) (listed (masks (now (rows .entry))) k q) (masks (now (slots .entry))) 0 (masks (now (slots .exit))) r ⌝ }
+{
+    let all = candidates(rows, k, q, cuts.core);
+    let mut near = [0u64; sets::WIDTH];
+    near::fill(rows, k, q, all, cuts.reach, cuts.pairs, &mut near);
+    branch::branch(
+        rows,
+        &near,
+        k,
+        q,
+        cuts.parted,
+        cuts.swallow,
+        cuts.second,
+        sets::empty(),
+        all,
+        slots,
+        0,
+    )
+}
+
+// The list with the cuts that are switched on. The promise is that of `list`, whatever the setting.
+pub fn list_with(rows: &[u64], request: Request, cuts: Cuts, slots: &mut [u64]) -> ListFound
+    ensures { λ r. ⌜ Lists (masks (now (rows .entry))) (request .slack) (request .floor) (masks (now (slots .entry))) (masks (now (slots .exit))) r ⌝ }
+{
+    let checked = judging::check::check_request(rows, request);
+    if let Checked::Failed(f) = checked {
+        return ListFound::Refused(f);
+    }
+    let m = enumerate(rows, request.slack, request.floor, cuts, slots);
+    if m <= sets::count(slots) {
+        return ListFound::Listed(m);
+    }
+    place::clear(slots);
+    ListFound::Refused(Refusal::Slots(m))
+}
+
+// Every maximal k-plex of at least q members of the graph with these rows, as masks in rising order, each once, for the slack k and the floor q of the request.
+// Outcome: m, their number; the first m slots hold them, and the later ones keep what they held.
+// Refusals: 1, 2, 3, 4, 5, which leave the slots, and 6 with the exact m where there are fewer slots than m, which makes all slots 0.
+// Cost: exponential in the worst case; it grows with the list where the floor is low.
+pub fn list(rows: &[u64], request: Request, slots: &mut [u64]) -> ListFound
+    ensures { λ r. ⌜ Lists (masks (now (rows .entry))) (request .slack) (request .floor) (masks (now (slots .entry))) (masks (now (slots .exit))) r ⌝ }
+{
+    list_with(
+        rows,
+        request,
+        Cuts {
+            core: true,
+            reach: true,
+            pairs: true,
+            second: false,
+            parted: true,
+            swallow: true,
+        },
+        slots,
+    )
+}

@@ -9,7 +9,6 @@ use Rattle.sets.specs.RangeLaws.{true-is-not-false}
 use Rattle.bounds.specs.Bound.{secondBound}
 use Rattle.bounds.specs.BoundSetting.{Boundable}
 use Rattle.search.specs.FoundLaws.{bounded-empty}
-use borrow.Author.Needs.{needs}
 use Rattle.search.proofs.cut.is_bounded.Statement.{statement}
 use Rattle.search.proofs.cut.is_bounded.Tie as tie
 

@@ -1,0 +1,30 @@
+-- `search::candidates` meets its contract: every listed plex lies in the core, and in the full set.
+use native.Mathlib.Omega.{arith}
+use mathlib.Core.Path.{ap, _∙_}
+use Rattle.sets.specs.Set.{full}
+use Rattle.search.specs.TopLaws.{core-candidates, all-candidates}
+use borrow.Author.Needs.{needs}
+use Rattle.search.proofs.candidates.Statement.{statement}
+use Rattle.search.proofs.candidates.Tie as tie
+
+sub-core : tie.Need-sub-core
+sub-core c = search needs
+
+core-requires : tie.Need-core-requires
+core-requires c κs = search needs
+
+returns : tie.Need-returns
+returns c = core-candidates _ _ _ _ (c .core .ensures)
+
+count-requires : tie.Need-count-requires
+count-requires c κs = search needs
+
+full-requires : tie.Need-full-requires
+full-requires c κs = (omega (arith, c .count .ensures, c .before .before .before .pre .sized .some), omega (arith, c .count .ensures, c .before .before .before .pre .sized .most))
+
+returns-2 : tie.Need-returns-2
+returns-2 c = all-candidates _ _ _ _ (c .full .ensures ∙ ap full (c .before .count .ensures))
+
+pub candidates-spec : {M : Type 1} → statement M
+candidates-spec =
+    tie.close (tie.spec sub-core core-requires returns count-requires full-requires returns-2)

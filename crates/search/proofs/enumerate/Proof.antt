@@ -1,0 +1,50 @@
+-- `search::enumerate` meets its contract: from the candidates on, all that is listed is found.
+use Prim.Native.Nat.{ℕ, _≤_}
+use mathlib.Core.Path.{refl, sym, subst}
+use borrow.Author.Needs.{needs}
+use denote.Ref.{now}
+use lib.ListN.{length}
+use Rattle.sets.specs.Words.{masks}
+use Rattle.search.specs.TopLaws.{table-room, start-pairing, start-ready, start-adds}
+use borrow.Author.Needs.{needs}
+use Rattle.search.proofs.enumerate.Statement.{statement}
+use Rattle.search.proofs.enumerate.Tie as tie
+
+candidates-requires : tie.Need-candidates-requires
+candidates-requires c κs = search needs
+
+slice-aggregate-fill : tie.Need-slice-aggregate-fill
+slice-aggregate-fill c = search needs
+
+fill-requires : tie.Need-fill-requires
+fill-requires c κs = (record { sized = c .before .before .before .before .pre .sized; room = table-room _ _ (c .before .before .before .before .pre .sized) refl }, start-pairing _ _ _ _ (c .before .before .before .before .pre) (c .before .candidates .ensures), c .before .before .before .before .pre .floor .0)
+
+slice-aggregate-branch : tie.Need-slice-aggregate-branch
+slice-aggregate-branch c = search needs
+
+empty-requires : tie.Need-empty-requires
+empty-requires c κs = search needs
+
+branch-requires : tie.Need-branch-requires
+branch-requires c κs =
+    start-ready _ _ _ _ _ _ (c .before .empty .ensures) (c .before .before .before .before .before .before .before .before .before .pre) (c .before .before .before .before .before .before .candidates .ensures)
+    (subst (λ (n : ℕ). length (masks (now (c .before .before .before .before .before .before .before .before .before .args .rows))) ≤ n) (sym (c .before .before .before .before .fill .ensures .long)) (table-room _ _ (c .before .before .before .before .before .before .before .before .before .pre .sized) refl)) (c .before .before .before .before .fill .ensures .near)
+
+same-length : tie.Need-same-length
+same-length c = search needs
+
+returns : tie.Need-returns
+returns c = start-adds _ _ _ _ _ (c .before .before .before .before .empty .ensures) (c .before .before .before .before .before .before .before .before .before .candidates .ensures) _ _ _ (c .before .before .branch .ensures)
+
+pub enumerate-spec : {M : Type 1} → statement M
+enumerate-spec =
+    tie.close
+    (tie.spec
+    candidates-requires
+    slice-aggregate-fill
+    fill-requires
+    slice-aggregate-branch
+    empty-requires
+    branch-requires
+    same-length
+    returns)

@@ -1,0 +1,84 @@
+-- `search::list_with` meets its contract: a refused request leaves the slots, and else what was added is the list.
+use Prim.Native.Nat.{ℕ, _≤_, _<_}
+use native.Mathlib.Omega.{arith}
+use mathlib.Core.Path.{sym, ap, _∙_}
+use borrow.Author.Needs.{needs}
+use denote.Ref.{now}
+use lib.ListN.{length, replicate}
+use Rattle.sets.specs.Words.{masks}
+use Rattle.judging.specs.Calls.{numberOf, valueOf, checkedReply, requestCheck}
+use Rattle.judging.specs.RefusalLaws.{first-append}
+use Rattle.judging.specs.CallLaws.{check-failed, none-holds}
+use Rattle.search.specs.Calls.{listReply}
+use Rattle.search.specs.TopLaws.{accepted, refused-slots, list-long, list-fits, list-slots, list-short, list-cleared}
+use borrow.Author.Needs.{needs}
+use Rattle.search.proofs.list_with.Statement.{statement}
+use Rattle.search.proofs.list_with.Tie as tie
+
+check-request-requires : tie.Need-check-request-requires
+check-request-requires c κs = search needs
+
+enum-known-checked : tie.Need-enum-known-checked
+enum-known-checked c = search needs
+
+returns : tie.Need-returns
+unfolding listReply
+returns c =
+    let f = c .before .checked .given .0 .0 in
+    let e = c .before .checked .given .1 in
+    record {
+      reply = check-failed (requestCheck (masks (now (c .before .before .before .before .before .before .args .rows))) (c .before .before .before .before .before .before .args .request .slack) (c .before .before .before .before .before .before .args .request .floor)) _ (c .before .before .before .check-request .ensures) f _ e ∙ sym (first-append (requestCheck (masks (now (c .before .before .before .before .before .before .args .rows))) (c .before .before .before .before .before .before .args .request .slack) (c .before .before .before .before .before .before .args .request .floor)) _ _);
+      slots = refused-slots _ _ _ (numberOf f) (valueOf f) _ (sym (c .before .before .before .check-request .ensures) ∙ ap checkedReply e);
+    }
+
+enum-told : tie.Need-enum-told
+enum-told c = search needs
+
+enumerate-requires : tie.Need-enumerate-requires
+enumerate-requires c κs = accepted _ _ _ (none-holds _ _ (c .before .before .before .check-request .ensures) (c .before .enum-told .given .1))
+
+count-requires : tie.Need-count-requires
+count-requires c κs = search needs
+
+same-length : tie.Need-same-length
+same-length c = search needs
+
+returns-2 : tie.Need-returns-2
+returns-2 c =
+    let e = (none-holds _ _ (c .before .before .before .before .before .before .before .before .before .check-request .ensures) (c .before .before .before .before .before .before .before .enum-told .given .1)) in
+    let x = c .before .before .before .before .before .enumerate .ensures in
+    let fits : c .before .before .before .before .before .enumerate .result ≤ length (masks (now (c .before .before .before .before .before .before .before .before .before .before .before .before .args .slots))) = omega (arith, c .if1 .taken, c .before .count .ensures, list-long _ _ _ e _ _ _ x) in
+    record { reply = list-fits _ _ _ e _ _ _ x fits; slots = list-slots _ _ _ e _ _ _ x fits }
+
+clear-requires : tie.Need-clear-requires
+clear-requires c κs = search needs
+
+same-length-2 : tie.Need-same-length-2
+same-length-2 c = search needs
+
+returns-3 : tie.Need-returns-3
+returns-3 c =
+    let e = (none-holds _ _ (c .before .before .before .before .before .before .before .before .before .before .before .before .before .check-request .ensures) (c .before .before .before .before .before .before .before .before .before .before .before .enum-told .given .1)) in
+    let x = c .before .before .before .before .before .before .before .before .before .enumerate .ensures in
+    let long = list-long _ _ _ e _ _ _ x in
+    let less : length (masks (now (c .before .before .before .before .before .before .before .before .before .before .before .before .before .before .before .before .args .slots))) < c .before .before .before .before .before .before .before .before .before .enumerate .result = omega (arith, c .before .before .before .before .if1 .left, c .before .before .before .before .before .count .ensures, long) in
+    record {
+      reply = list-short _ _ _ e _ _ _ x less;
+      slots = c .before .before .clear .ensures ∙ ap (λ (n : ℕ). replicate n 0) long ∙ list-cleared _ _ _ e _ _ _ x less;
+    }
+
+pub list-with-spec : {M : Type 1} → statement M
+list-with-spec =
+    tie.close
+    (tie.spec
+    check-request-requires
+    enum-known-checked
+    returns
+    enum-told
+    enumerate-requires
+    count-requires
+    same-length
+    returns-2
+    clear-requires
+    same-length-2
+    returns-3)
