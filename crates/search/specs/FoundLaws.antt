@@ -139,24 +139,27 @@ module _ (g : List ℕ) (k q s c v r : ℕ) (e : In v c) (out : bit s v ≡ 0) (
       record { lower = f .lower; upper = λ u. omega (arith, f .upper u, bit-or s (without c v) u, bit-or s c u, minus-sub c (2 ^ v) u); listed = f .listed }
 
   -- no plex is in both branches
-  pub branches-apart : Apart (2 ^ length g) (found g k q (with s v) r) (found g k q s (without c v))
-  branches-apart x l t u =
+  pub branches-apart : Apart (2 ^ length g) (found g k q s (without c v)) (found g k q (with s v) r)
+  branches-apart x l u t =
       let f = found-holds g k q (with s v) r x l t in
       let h = found-holds g k q s (without c v) x l u in
       omega (arith, f .lower v, with-same s v, h .upper v, bit-or s (without c v) v, without-same c v)
 
   -- and each is in one of them
-  pub branches : (x : ℕ) → x < 2 ^ length g → union (found g k q (with s v) r) (found g k q s (without c v)) x ≡ found g k q s c x
-  branches x l = same-test (union (found g k q (with s v) r) (found g k q s (without c v)) x) (found g k q s c x) (λ t. back (or-cases (found g k q (with s v) r x) (found g k q s (without c v) x) t)) (λ t. into (found-holds g k q s c x l t) (ℕ-discrete (bit x v) 1))
+  pub branches : (x : ℕ) → x < 2 ^ length g → union (found g k q s (without c v)) (found g k q (with s v) r) x ≡ found g k q s c x
+  branches x l =
+      same-test (union (found g k q s (without c v)) (found g k q (with s v) r) x) (found g k q s c x)
+      (λ t. back (or-cases (found g k q s (without c v) x) (found g k q (with s v) r x) t))
+      (λ t. into (found-holds g k q s c x l t) (ℕ-discrete (bit x v) 1))
     where
-      back : T (found g k q (with s v) r x) ⊎ T (found g k q s (without c v) x) → T (found g k q s c x)
-      back (inl t) = found-test g k q s c x (found-with x (found-holds g k q (with s v) r x l t))
-      back (inr t) = found-test g k q s c x (found-without x (found-holds g k q s (without c v) x l t))
+      back : T (found g k q s (without c v) x) ⊎ T (found g k q (with s v) r x) → T (found g k q s c x)
+      back (inl t) = found-test g k q s c x (found-without x (found-holds g k q s (without c v) x l t))
+      back (inr t) = found-test g k q s c x (found-with x (found-holds g k q (with s v) r x l t))
 
-      into : Found g k q s c x → Dec (bit x v ≡ 1) → T (union (found g k q (with s v) r) (found g k q s (without c v)) x)
-      into f (yes i) = or-left (found g k q (with s v) r x) (found g k q s (without c v) x) (found-test g k q (with s v) r x (with-found x f i))
+      into : Found g k q s c x → Dec (bit x v ≡ 1) → T (union (found g k q s (without c v)) (found g k q (with s v) r) x)
+      into f (yes i) = or-right (found g k q s (without c v) x) (found g k q (with s v) r x) (found-test g k q (with s v) r x (with-found x f i))
       into f (no ni) =
-          or-right (found g k q (with s v) r x) (found g k q s (without c v) x)
+          or-left (found g k q s (without c v) x) (found g k q (with s v) r x)
           (found-test g k q s (without c v) x (without-found x f (omega (arith, bit-le x v))))
 
   -- where the branch with v is cut, the other has all

@@ -16,3 +16,4 @@ pub mod NearLaws
 pub mod Ready
 pub mod Calls
 pub mod TopLaws
+pub mod Edges

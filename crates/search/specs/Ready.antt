@@ -133,10 +133,10 @@ module _ (g t : List ℕ) (k q s c count : ℕ) (h : Ready g t k q s c count) wh
       with-compatible : Compatible g k (with s v) r
       with-compatible = trimmed-compatible g k s c v r (h .settled .valid) (h .fine) i (m .kept .part) (m .blocked) (m .cheap)
 
-      shared : number (2 ^ length g) (found g k q (with s v) r) + number (2 ^ length g) (found g k q s (without c v)) ≡ number (2 ^ length g) (found g k q s c)
+      shared : number (2 ^ length g) (found g k q s (without c v)) + number (2 ^ length g) (found g k q (with s v) r) ≡ number (2 ^ length g) (found g k q s c)
       shared =
-          sym (number-union (2 ^ length g) (found g k q (with s v) r) (found g k q s (without c v)) (branches-apart g k q s c v r i (h .fine .apart v i) (m .kept)))
-          ∙ number-same (2 ^ length g) (union (found g k q (with s v) r) (found g k q s (without c v))) (found g k q s c) (branches g k q s c v r i (h .fine .apart v i) (m .kept))
+          sym (number-union (2 ^ length g) (found g k q s (without c v)) (found g k q (with s v) r) (branches-apart g k q s c v r i (h .fine .apart v i) (m .kept)))
+          ∙ number-same (2 ^ length g) (union (found g k q s (without c v)) (found g k q (with s v) r)) (found g k q s c) (branches g k q s c v r i (h .fine .apart v i) (m .kept))
 
       pub with-boundable : Boundable g k s (with r v) v
       with-boundable =
@@ -152,10 +152,6 @@ module _ (g t : List ℕ) (k q s c count : ℕ) (h : Ready g t k q s c count) wh
           out : (u : ℕ) → In u (with r v) → Dec (v ≡ u) → bit s u ≡ 0
           out u j (yes z) = subst (λ (y : ℕ). bit s y ≡ 0) z (h .fine .apart v i)
           out u j (no nz) = omega (arith, with-other s v u nz, with-compatible .apart u (omega (arith, with-other r v u nz)))
-
-      pub with-ready : (j : ℕ) → j ≡ with s v → Ready g t k q j r count
-      with-ready j z =
-          subst (λ (x : ℕ). Ready g t k q x r count) (sym z) (record { settled = h .settled; fine = with-compatible; room = omega (arith, h .room, shared) })
 
       pub with-falls : r < c
       with-falls = omega (arith, sub-number r (without c v) (m .kept .part), without-less c v i)
@@ -174,46 +170,34 @@ module _ (g t : List ℕ) (k q s c count : ℕ) (h : Ready g t k q s c count) wh
         pub without-falls : rest < c
         without-falls = subst (λ (x : ℕ). x < c) (sym e) (without-less c v i)
 
-        -- after the branch with v has counted n
-        pub without-ready : (j n : ℕ) → j ≡ with s v → n ≡ count + number (2 ^ length g) (found g k q j r) → Ready g t k q s rest n
-        without-ready j n z w =
-            subst (λ (x : ℕ). Ready g t k q s x n) (sym e)
-            (record {
-              settled = h .settled;
-              fine = without-compatible;
-              room = omega (arith, h .room, shared, ap (λ (x : ℕ). number (2 ^ length g) (found g k q x r)) z);
-            })
+        pub without-ready : Ready g t k q s rest count
+        without-ready =
+            subst (λ (x : ℕ). Ready g t k q s x count) (sym e) (record { settled = h .settled; fine = without-compatible; room = omega (arith, h .room, shared) })
 
-        pub branches-add : (j : ℕ) (before between after : List ℕ) (n o : ℕ) → j ≡ with s v
-            → Adds (2 ^ length g) (found g k q j r) before count between n → Adds (2 ^ length g) (found g k q s rest) between n after o
-            → Adds (2 ^ length g) (found g k q s c) before count after o
-        branches-add j before between after n o z x y =
-            adds-same (2 ^ length g) (union (found g k q (with s v) r) (found g k q s (without c v))) (found g k q s c) before after count o
-            (branches g k q s c v r i (h .fine .apart v i) (m .kept))
-            (adds-both (2 ^ length g) (found g k q (with s v) r) (found g k q s (without c v)) before between after count n o
-            (branches-apart g k q s c v r i (h .fine .apart v i) (m .kept))
-            (subst (λ (u : ℕ). Adds (2 ^ length g) (found g k q u r) before count between n) z x)
-            (subst (λ (u : ℕ). Adds (2 ^ length g) (found g k q s u) between n after o) e y))
+        module _ (before between : List ℕ) (n : ℕ) (x : Adds (2 ^ length g) (found g k q s rest) before count between n) where
+          others : Adds (2 ^ length g) (found g k q s (without c v)) before count between n
+          others = subst (λ (u : ℕ). Adds (2 ^ length g) (found g k q s u) before count between n) e x
 
-        -- where the branch with v is cut
-        module _ (cut : Empty g k q (with s v) r) where
-          all-without : (x : ℕ) → x < 2 ^ length g → found g k q s (without c v) x ≡ found g k q s c x
-          all-without = branch-without g k q s c v r i (h .fine .apart v i) (m .kept) cut
+          -- where the branch with v is cut, the other has added all
+          pub without-adds : Empty g k q (with s v) r → Adds (2 ^ length g) (found g k q s c) before count between n
+          without-adds cut =
+              adds-same (2 ^ length g) (found g k q s (without c v)) (found g k q s c) before between count n
+              (branch-without g k q s c v r i (h .fine .apart v i) (m .kept) cut) others
 
-          pub skip-ready : Ready g t k q s rest count
-          skip-ready =
-              subst (λ (x : ℕ). Ready g t k q s x count) (sym e)
-              (record {
-                settled = h .settled;
-                fine = without-compatible;
-                room = omega (arith, h .room, number-same (2 ^ length g) (found g k q s (without c v)) (found g k q s c) all-without);
-              })
+          module _ (j : ℕ) (z : j ≡ with s v) where
+            -- after the branch without v
+            pub with-ready : Ready g t k q j r n
+            with-ready =
+                subst (λ (u : ℕ). Ready g t k q u r n) (sym z)
+                (record { settled = h .settled; fine = with-compatible; room = omega (arith, h .room, shared, others .counts) })
 
-          pub skip-adds : (before after : List ℕ) (o : ℕ) → Adds (2 ^ length g) (found g k q s rest) before count after o
-              → Adds (2 ^ length g) (found g k q s c) before count after o
-          skip-adds before after o x =
-              adds-same (2 ^ length g) (found g k q s (without c v)) (found g k q s c) before after count o all-without
-              (subst (λ (u : ℕ). Adds (2 ^ length g) (found g k q s u) before count after o) e x)
+            pub branches-add : (after : List ℕ) (o : ℕ) → Adds (2 ^ length g) (found g k q j r) between n after o → Adds (2 ^ length g) (found g k q s c) before count after o
+            branches-add after o y =
+                adds-same (2 ^ length g) (union (found g k q s (without c v)) (found g k q (with s v) r)) (found g k q s c) before after count o
+                (branches g k q s c v r i (h .fine .apart v i) (m .kept))
+                (adds-both (2 ^ length g) (found g k q s (without c v)) (found g k q (with s v) r) before between after count n o
+                (branches-apart g k q s c v r i (h .fine .apart v i) (m .kept)) others
+                (subst (λ (u : ℕ). Adds (2 ^ length g) (found g k q u r) between n after o) z y))
 
 -- ---- what the code of a leaf adds
 

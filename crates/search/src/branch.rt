@@ -21,7 +21,8 @@ pub fn leaf(rows: &[u64], k: usize, a: Set, free: Set, slots: &mut [u64], count:
 }
 
 // Places every listed plex that holds s and has no member outside s and c, and gives the new count.
-// The switches are the partition bound, the swallow test and the second bound.
+// The switches are the partition bound, the swallow test and the second bound. While more than `wide` candidates are left the highest is branched on:
+// the branch without it comes first, so the masks come almost in rising order, and placing them moves little.
 pub fn branch(
     rows: &[u64],
     near: &[u64],
@@ -30,6 +31,7 @@ pub fn branch(
     parted: bool,
     swallow: bool,
     second: bool,
+    wide: usize,
     s: Set,
     c: Set,
     slots: &mut [u64],
@@ -56,49 +58,13 @@ pub fn branch(
     if sets::is_empty(from) {
         return count;
     }
-    let v = crate::choice::pick(rows, a, from);
+    let v = crate::choice::choose(rows, a, c, from, wide);
     let rest = sets::without(c, v);
     let kept = crate::trim::beside(rows, near, k, s, c, v);
+    let others = branch(rows, near, k, q, parted, swallow, second, wide, s, rest, slots, count);
     if crate::cut::is_bounded(rows, k, q, second, s, kept, v) {
-        return branch(
-            rows,
-            near,
-            k,
-            q,
-            parted,
-            swallow,
-            second,
-            s,
-            rest,
-            slots,
-            count,
-        );
+        return others;
     }
     let joined = sets::with(s, v);
-    let taken = branch(
-        rows,
-        near,
-        k,
-        q,
-        parted,
-        swallow,
-        second,
-        joined,
-        kept,
-        slots,
-        count,
-    );
-    branch(
-        rows,
-        near,
-        k,
-        q,
-        parted,
-        swallow,
-        second,
-        s,
-        rest,
-        slots,
-        taken,
-    )
+    branch(rows, near, k, q, parted, swallow, second, wide, joined, kept, slots, others)
 }

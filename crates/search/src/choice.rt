@@ -2,7 +2,7 @@
 ghost use Prim.Native.Nat.{_<_};
 ghost use Rattle.sets.specs.Set.{In};
 ghost use Rattle.sets.specs.Words.{mask, masks};
-ghost use Rattle.search.specs.Choice.{Choosable, Among, Pickable};
+ghost use Rattle.search.specs.Choice.{Choosable, Among, Pickable, Choice};
 use sets::Set;
 
 // The candidates to choose from: w alone where it is one, else those that w is not adjacent to.
@@ -34,4 +34,15 @@ pub fn pick(rows: &[u64], a: Set, s: Set) -> usize
         }
     }
     best
+}
+
+// The vertex to branch on: the highest candidate while more than `wide` are left, else the one of `from` that misses most of a.
+pub fn choose(rows: &[u64], a: Set, c: Set, from: Set, wide: usize) -> usize
+    requires { ⌜ Choice (masks (now rows)) (mask c) (mask from) ⌝ }
+    ensures { λ r. ⌜ In r (mask c) ⌝ }
+{
+    if wide < sets::size(c) {
+        return sets::highest(c);
+    }
+    pick(rows, a, from)
 }

@@ -37,6 +37,10 @@ pub struct Cuts {
     pub swallow: bool,
 }
 
+// From so many slots on the order in which masks are found matters, and so deep below the top it is kept.
+const MANY_SLOTS: usize = 16384;
+const DEEP: usize = 20;
+
 // The vertices to start from: the core, or all.
 pub fn candidates(rows: &[u64], k: usize, q: usize, core: bool) -> Set
     requires { ⌜ Accepted (masks (now rows)) k q ⌝ }
@@ -48,6 +52,14 @@ pub fn candidates(rows: &[u64], k: usize, q: usize, core: bool) -> Set
     sets::full(sets::count(rows))
 }
 
+// Above how many candidates the search branches on the highest, for so many slots and candidates at the top: where few masks are stored, never.
+fn spread(room: usize, n: usize) -> usize {
+    if room < MANY_SLOTS || n < DEEP {
+        return sets::WIDTH;
+    }
+    n - DEEP
+}
+
 // Places every maximal k-plex of at least q members while the slots have room, and counts them all.
 pub fn enumerate(rows: &[u64], k: usize, q: usize, cuts: Cuts, slots: &mut [u64]) -> usize
     requires { ⌜ Accepted (masks (now rows)) k q ⌝ }
@@ -56,6 +68,7 @@ pub fn enumerate(rows: &[u64], k: usize, q: usize, cuts: Cuts, slots: &mut [u64]
     let all = candidates(rows, k, q, cuts.core);
     let mut near = [0u64; sets::WIDTH];
     near::fill(rows, k, q, all, cuts.reach, cuts.pairs, &mut near);
+    let wide = spread(sets::count(slots), sets::size(all));
     branch::branch(
         rows,
         &near,
@@ -64,6 +77,7 @@ pub fn enumerate(rows: &[u64], k: usize, q: usize, cuts: Cuts, slots: &mut [u64]
         cuts.parted,
         cuts.swallow,
         cuts.second,
+        wide,
         sets::empty(),
         all,
         slots,

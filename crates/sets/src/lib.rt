@@ -6,7 +6,7 @@ ghost use lib.Dec.{eqb, ltb};
 ghost use lib.Bits.{bitAnd, bitOr};
 ghost use lib.ListN.{length, set};
 ghost use Rattle.sets.specs.Set.{has, size, subset, with, minus, without, full};
-ghost use Rattle.sets.specs.Words.{width, mask, masks, Lowest};
+ghost use Rattle.sets.specs.Words.{width, mask, masks, Lowest, Highest};
 ghost use Rattle.sets.specs.Graph.{row};
 
 // A set of vertices: v is a member where the bit of value 2^v is set.
@@ -132,6 +132,14 @@ pub fn lowest(s: Set) -> usize
     ensures { λ r. ⌜ Lowest (mask s) r ⌝ }
 {
     u64::trailing_zeros(s) as usize
+}
+
+// The highest member of s.
+pub fn highest(s: Set) -> usize
+    requires { ⌜ 0 < mask s ⌝ }
+    ensures { λ r. ⌜ Highest (mask s) r ⌝ }
+{
+    WIDTH - 1 - u64::leading_zeros(s) as usize
 }
 
 // s without its lowest member v: the step of a walk through the members.

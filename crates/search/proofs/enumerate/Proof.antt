@@ -19,6 +19,15 @@ slice-aggregate-fill c = search needs
 fill-requires : tie.Need-fill-requires
 fill-requires c κs = (record { sized = c .before .before .before .before .pre .sized; room = table-room _ _ (c .before .before .before .before .pre .sized) refl }, start-pairing _ _ _ _ (c .before .before .before .before .pre) (c .before .candidates .ensures), c .before .before .before .before .pre .floor .0)
 
+count-requires : tie.Need-count-requires
+count-requires c κs = search needs
+
+size-requires : tie.Need-size-requires
+size-requires c κs = search needs
+
+spread-requires : tie.Need-spread-requires
+spread-requires c κs = search needs
+
 slice-aggregate-branch : tie.Need-slice-aggregate-branch
 slice-aggregate-branch c = search needs
 
@@ -26,15 +35,15 @@ empty-requires : tie.Need-empty-requires
 empty-requires c κs = search needs
 
 branch-requires : tie.Need-branch-requires
-branch-requires c κs =
-    start-ready _ _ _ _ _ _ (c .before .empty .ensures) (c .before .before .before .before .before .before .before .before .before .pre) (c .before .before .before .before .before .before .candidates .ensures)
-    (subst (λ (n : ℕ). length (masks (now (c .before .before .before .before .before .before .before .before .before .args .rows))) ≤ n) (sym (c .before .before .before .before .fill .ensures .long)) (table-room _ _ (c .before .before .before .before .before .before .before .before .before .pre .sized) refl)) (c .before .before .before .before .fill .ensures .near)
+branch-requires c κs = 
+    start-ready _ _ _ _ _ _ (c .before .empty .ensures) (c .before .before .before .before .before .before .before .before .before .before .before .before .before .pre) (c .before .before .before .before .before .before .before .before .before .before .candidates .ensures)
+    (subst (λ (n : ℕ). length (masks (now (c .before .before .before .before .before .before .before .before .before .before .before .before .before .args .rows))) ≤ n) (sym (c .before .before .before .before .before .before .before .before .fill .ensures .long)) (table-room _ _ (c .before .before .before .before .before .before .before .before .before .before .before .before .before .pre .sized) refl)) (c .before .before .before .before .before .before .before .before .fill .ensures .near)
 
 same-length : tie.Need-same-length
 same-length c = search needs
 
 returns : tie.Need-returns
-returns c = start-adds _ _ _ _ _ (c .before .before .before .before .empty .ensures) (c .before .before .before .before .before .before .before .before .before .candidates .ensures) _ _ _ (c .before .before .branch .ensures)
+returns c = start-adds _ _ _ _ _ (c .before .before .before .before .empty .ensures) (c .before .before .before .before .before .before .before .before .before .before .before .before .before .candidates .ensures) _ _ _ (c .before .before .branch .ensures)
 
 pub enumerate-spec : {M : Type 1} → statement M
 enumerate-spec =
@@ -43,6 +52,9 @@ enumerate-spec =
     candidates-requires
     slice-aggregate-fill
     fill-requires
+    count-requires
+    size-requires
+    spread-requires
     slice-aggregate-branch
     empty-requires
     branch-requires

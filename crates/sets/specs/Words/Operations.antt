@@ -5,12 +5,12 @@ use mathlib.Core.Path.{_≡_, refl, ap, _∙_}
 use mathlib.Core.List.{List, _++_}
 use lib.Dec.{eqb, leb, ltb}
 use lib.Bits.{bitAnd, bitOr}
-use lib.Count.{ones, ones-le, trailingZeros}
+use lib.Count.{leadingZeros, ones, ones-le, trailingZeros}
 use lib.ListN.{length, getD, set, take, drop}
 use Rattle.sets.specs.Set.{has, size, subset, with, minus, without, full}
 use Rattle.sets.specs.Graph.{row}
-use Rattle.sets.specs.Words.{width, mask, masks, Lowest}
-use Rattle.sets.specs.WordLaws.{shift-one, shift-ones, shifted-has, le-ones-lt, and-not, trailing-lowest, clear-lowest}
+use Rattle.sets.specs.Words.{width, mask, masks, Lowest, Highest}
+use Rattle.sets.specs.WordLaws.{shift-one, shift-ones, shifted-has, le-ones-lt, and-not, trailing-lowest, leading-highest, clear-lowest}
 
 pub empty-mask : mask 0 ≡ 0
 unfolding mask
@@ -74,6 +74,16 @@ unfolding mask
 lowest-mask s h p =
     let r = trailing-lowest width s p h in
     record { fits = r .0; member = r .1; least = r .2 }
+
+pub leading-fits : (s : ℕ) → s < 2 ^ width → 0 < mask s → leadingZeros width s < width
+unfolding mask
+leading-fits s h p = leading-highest width s p h .0
+
+pub highest-mask : (s : ℕ) → s < 2 ^ width → 0 < mask s → Highest (mask s) (width - 1 - leadingZeros width s)
+unfolding mask
+highest-mask s h p =
+    let r = leading-highest width s p h in
+    record { fits = omega arith; member = r .1; above = r .2 }
 
 pub rest-mask : (s v : ℕ) → Lowest (mask s) v → mask (bitAnd s (s - 1)) ≡ without (mask s) v
 unfolding mask

@@ -1,7 +1,7 @@
 -- The proof of the cycle of calls {branch}: each cut adds nothing, a leaf adds itself, and the branches with and without a vertex share the rest.
 -- The measure is the number c, which falls when a candidate leaves it.
 use Prim.Native.Nat.{ℕ, _<_}
-use borrow.Fn.Kinds.{In as In'}
+use borrow.Fn.Kinds.{In}
 use borrow.Fn.PlainCycle.{Measures, is, falls, and}
 use mathlib.Core.Path.{refl, sym, _∙_}
 use native.Mathlib.Omega.{arith}
@@ -9,19 +9,18 @@ use borrow.Author.Needs.{needs}
 use borrow.Author.Tests.{eqb-true, eqb-false}
 use denote.Ref.{now}
 use lib.ListN.{length}
-use Rattle.sets.specs.Set.{In}
 use Rattle.sets.specs.Words.{mask, masks}
-use Rattle.sets.specs.SubsetLaws.{in-of-sub, in-below, sub-below, positive-of}
+use Rattle.sets.specs.SubsetLaws.{in-below, sub-below, positive-of}
 use Rattle.search.specs.PlacingLaws.{adds-same}
 use Rattle.search.specs.TrimLaws.{Beside}
 use Rattle.search.specs.Survey.{survey-plex, survey-free}
-use Rattle.search.specs.Ready.{ready-between, ready-inside, ready-joinable, short-adds, swallowed-adds, stuck-adds, leaf-adds, leaf-room, with-boundable, with-ready, with-falls, without-falls, without-ready, branches-add, skip-ready, skip-adds}
+use Rattle.search.specs.Ready.{ready-between, ready-inside, ready-joinable, short-adds, swallowed-adds, stuck-adds, leaf-adds, leaf-room, with-boundable, with-ready, with-falls, without-falls, without-ready, without-adds, branches-add}
 use Rattle.search.proofs.branch.branch.Reads as branch
 use Rattle.search.proofs.branch.branch.Kinds as branch-kinds
 use Rattle.search.proofs.branch.+branch.Lts-branch as branch-lts
 use Rattle.search.proofs.branch.leaf.Reads as leaf-reads
 use Rattle.search.proofs.choice.among.Reads as among-reads
-use Rattle.search.proofs.choice.pick.Reads as pick-reads
+use Rattle.search.proofs.choice.choose.Reads as choose-reads
 use Rattle.search.proofs.cut.is_bounded.Reads as is-bounded-reads
 use Rattle.search.proofs.cut.is_short.Reads as is-short-reads
 use Rattle.search.proofs.cut.is_swallowed.Reads as is-swallowed-reads
@@ -35,12 +34,12 @@ use Rattle.search.proofs.branch.+branch.{statement}
 use Rattle.search.proofs.branch.+branch.Tie.{close}
 
 abbrev μ-branch : Measures 3 branch-kinds.ps ℕ
-μ-branch κs a = mask (a .1 .1 .1 .1 .1 .1 .1 .1 .0)
+μ-branch κs a = mask (a .1 .1 .1 .1 .1 .1 .1 .1 .1 .0)
 
-abbrev branch-at : ℕ → In' 3 branch-kinds.ps
+abbrev branch-at : ℕ → In 3 branch-kinds.ps
 branch-at t = and 3 branch-kinds.ps (is 3 branch-kinds.ps μ-branch t) branch.Pre
 
-abbrev branch-below : ℕ → In' 3 branch-kinds.ps
+abbrev branch-below : ℕ → In 3 branch-kinds.ps
 branch-below t = and 3 branch-kinds.ps (falls 3 branch-kinds.ps _<_ μ-branch t) branch.Pre
 
 -- what the callees ask and give
@@ -60,16 +59,16 @@ calls t = (
   among-reads.Learnt,
   is-empty-reads.Asked,
   is-empty-reads.Learnt,
-  pick-reads.Asked,
-  pick-reads.Learnt,
+  choose-reads.Asked,
+  choose-reads.Learnt,
   without-reads.Asked,
   without-reads.Learnt,
   beside-reads.Asked,
   beside-reads.Learnt,
-  is-bounded-reads.Asked,
-  is-bounded-reads.Learnt,
   branch-below t,
   branch.Post,
+  is-bounded-reads.Asked,
+  is-bounded-reads.Learnt,
   with-reads.Asked,
   with-reads.Learnt,
 )
@@ -88,7 +87,7 @@ module _ (t : ℕ) where
   survey-requires c κs = ready-inside _ _ _ _ _ _ _ (c .before .before .before .before .before .before .pre .1) _ (c .before .before .join .ensures)
 
   leaf-requires : branch-lts.Need-leaf-requires (calls t) (branch-at t) branch.Post
-  leaf-requires c κs =
+  leaf-requires c κs = 
       record {
         below = ready-inside _ _ _ _ _ _ _ (c .before .before .before .before .before .before .before .before .before .before .pre .1) _ (c .before .before .before .before .before .before .join .ensures) .below;
         unblocking = survey-free _ _ _ 0 _ _ _ refl (c .before .before .before .survey .ensures);
@@ -99,7 +98,7 @@ module _ (t : ℕ) where
   same-length c = search needs
 
   returns-2 : branch-lts.Need-returns-2 (calls t) (branch-at t) branch.Post
-  returns-2 c =
+  returns-2 c = 
       adds-same _ _ _ _ _ _ _ (leaf-adds _ _ _ _ _ _ _ (c .before .before .before .before .before .before .before .before .before .before .before .before .before .pre .1) _ (c .before .before .before .before .before .before .before .before .before .join .ensures) (survey-plex _ _ _ 0 _ _ _ refl (c .before .before .before .before .before .before .survey .ensures) (c .before .before .before .before .if2 .taken)) (c .before .before .before .before .before .before .before .before .is-short .ensures .1 (c .before .before .before .before .before .before .before .if1 .left)))
       (c .before .before .leaf .ensures)
 
@@ -110,7 +109,7 @@ module _ (t : ℕ) where
   returns-3 c = swallowed-adds _ _ _ _ _ _ _ (c .before .before .before .before .before .before .before .before .before .before .before .pre .1) _ (c .before .before .before .before .before .before .before .join .ensures) _ (c .before .is-swallowed .ensures (c .if3 .taken))
 
   among-requires : branch-lts.Need-among-requires (calls t) (branch-at t) branch.Post
-  among-requires c κs =
+  among-requires c κs = 
       let i = (c .before .before .before .before .survey .ensures) .reached (omega (arith, c .before .before .if2 .left)) .0 in
       record { vertex = in-below _ _ _ (ready-inside _ _ _ _ _ _ _ (c .before .before .before .before .before .before .before .before .before .before .before .pre .1) _ (c .before .before .before .before .before .before .before .join .ensures) .below) i; most = (c .before .before .before .before .before .before .before .before .before .before .before .pre .1) .settled .most }
 
@@ -118,79 +117,76 @@ module _ (t : ℕ) where
   is-empty-requires c κs = tt
 
   returns-4 : branch-lts.Need-returns-4 (calls t) (branch-at t) branch.Post
-  returns-4 c =
+  returns-4 c = 
       let w = (c .before .before .before .before .before .before .before .survey .ensures) .reached (omega (arith, c .before .before .before .before .before .if2 .left)) in
       stuck-adds _ _ _ _ _ _ _ (c .before .before .before .before .before .before .before .before .before .before .before .before .before .before .pre .1) _ (c .before .before .before .before .before .before .before .before .before .before .join .ensures) _ (c .before .before .before .before .before .before .before .survey .result .worst) (w .0) (omega (arith, w .1, c .before .before .before .before .before .if2 .left))
       (c .before .before .among .ensures .none (eqb-true _ _ (sym (c .before .is-empty .ensures) ∙ c .if4 .taken)))
 
-  pick-requires : branch-lts.Need-pick-requires (calls t) (branch-at t) branch.Post
-  pick-requires c κs =
+  choose-requires : branch-lts.Need-choose-requires (calls t) (branch-at t) branch.Post
+  choose-requires c κs = 
       record {
-        some = positive-of _ (eqb-false _ _ (sym (c .before .is-empty .ensures) ∙ c .if4 .left));
-        below = sub-below _ _ _ (c .before .before .among .ensures .part) ((c .before .before .before .before .before .before .before .before .before .before .before .before .before .before .pre .1) .fine .candidates);
+        pickable =
+          record {
+            some = positive-of _ (eqb-false _ _ (sym (c .before .is-empty .ensures) ∙ c .if4 .left));
+            below = sub-below _ _ _ (c .before .before .among .ensures .part) ((c .before .before .before .before .before .before .before .before .before .before .before .before .before .before .pre .1) .fine .candidates);
+          };
+        part = c .before .before .among .ensures .part;
       }
 
-  -- the vertex picked is a candidate
-  picked : (c : branch-lts.After-pick (calls t) (branch-at t) branch.Post) → In (c .pick .result) (mask (c .before .before .before .before .before .before .before .before .before .before .before .before .before .before .before .args .c))
-  picked c = in-of-sub _ _ _ (c .before .before .before .among .ensures .part) (c .pick .ensures)
-
-  vertex : (c : branch-lts.After-pick (calls t) (branch-at t) branch.Post) → c .pick .result < length (masks (now (c .before .before .before .before .before .before .before .before .before .before .before .before .before .before .before .args .rows)))
-  vertex c = in-below _ _ _ ((c .before .before .before .before .before .before .before .before .before .before .before .before .before .before .before .pre .1) .fine .candidates) (picked c)
+  -- the vertex chosen
+  vertex : (c : branch-lts.After-choose (calls t) (branch-at t) branch.Post) → c .choose .result < length (masks (now (c .before .before .before .before .before .before .before .before .before .before .before .before .before .before .before .args .rows)))
+  vertex c = in-below _ _ _ ((c .before .before .before .before .before .before .before .before .before .before .before .before .before .before .before .pre .1) .fine .candidates) (c .choose .ensures)
 
   without-requires : branch-lts.Need-without-requires (calls t) (branch-at t) branch.Post
   without-requires c κs = omega (arith, vertex c, (c .before .before .before .before .before .before .before .before .before .before .before .before .before .before .before .pre .1) .settled .most)
 
   beside-requires : branch-lts.Need-beside-requires (calls t) (branch-at t) branch.Post
-  beside-requires c κs = ready-joinable _ _ _ _ _ _ _ (c .before .before .before .before .before .before .before .before .before .before .before .before .before .before .before .before .pre .1) _ (picked (c .before))
+  beside-requires c κs = ready-joinable _ _ _ _ _ _ _ (c .before .before .before .before .before .before .before .before .before .before .before .before .before .before .before .before .pre .1) _ (c .before .choose .ensures)
 
   -- what is left of the candidates beside it
   left-beside : (c : branch-lts.After-beside (calls t) (branch-at t) branch.Post)
-      → Beside (masks (now (c .before .before .before .before .before .before .before .before .before .before .before .before .before .before .before .before .before .args .rows))) (c .before .before .before .before .before .before .before .before .before .before .before .before .before .before .before .before .before .args .k) (c .before .before .before .before .before .before .before .before .before .before .before .before .before .before .before .before .before .args .q) (mask (c .before .before .before .before .before .before .before .before .before .before .before .before .before .before .before .before .before .args .s)) (mask (c .before .before .before .before .before .before .before .before .before .before .before .before .before .before .before .before .before .args .c)) (c .before .before .pick .result) (mask (c .beside .result))
+      → Beside (masks (now (c .before .before .before .before .before .before .before .before .before .before .before .before .before .before .before .before .before .args .rows))) (c .before .before .before .before .before .before .before .before .before .before .before .before .before .before .before .before .before .args .k) (c .before .before .before .before .before .before .before .before .before .before .before .before .before .before .before .before .before .args .q) (mask (c .before .before .before .before .before .before .before .before .before .before .before .before .before .before .before .before .before .args .s)) (mask (c .before .before .before .before .before .before .before .before .before .before .before .before .before .before .before .before .before .args .c)) (c .before .before .choose .result) (mask (c .beside .result))
   left-beside c = c .beside .ensures (c .before .before .before .before .before .before .before .before .before .before .before .before .before .before .before .before .before .args .q) ((c .before .before .before .before .before .before .before .before .before .before .before .before .before .before .before .before .before .pre .1) .settled .near)
 
-  is-bounded-requires : branch-lts.Need-is-bounded-requires (calls t) (branch-at t) branch.Post
-  is-bounded-requires c κs = with-boundable _ _ _ _ _ _ _ (c .before .before .before .before .before .before .before .before .before .before .before .before .before .before .before .before .before .pre .1) _ (picked (c .before .before)) _ (left-beside c)
-
   branch-requires : branch-lts.Need-branch-requires (calls t) (branch-at t) branch.Post
-  branch-requires c κs =
-      let r = c .before .before .before in
-      let i = picked (r .before .before) in (
-        omega (arith, without-falls _ _ _ _ _ _ _ (c .before .before .before .before .before .before .before .before .before .before .before .before .before .before .before .before .before .before .before .before .pre .1) _ i _ (left-beside r) _ (r .before .without .ensures), c .before .before .before .before .before .before .before .before .before .before .before .before .before .before .before .before .before .before .before .before .pre .0),
-        skip-ready _ _ _ _ _ _ _ (c .before .before .before .before .before .before .before .before .before .before .before .before .before .before .before .before .before .before .before .before .pre .1) _ i _ (left-beside r) _ (r .before .without .ensures) (c .before .before .is-bounded .ensures (c .before .if5 .taken)),
-      )
+  branch-requires c κs = 
+      let r = c .before in
+      let i = r .before .before .choose .ensures in
+      (omega (arith, without-falls _ _ _ _ _ _ _ (c .before .before .before .before .before .before .before .before .before .before .before .before .before .before .before .before .before .before .pre .1) _ i _ (left-beside r) _ (r .before .without .ensures), c .before .before .before .before .before .before .before .before .before .before .before .before .before .before .before .before .before .before .pre .0),
+      without-ready _ _ _ _ _ _ _ (c .before .before .before .before .before .before .before .before .before .before .before .before .before .before .before .before .before .before .pre .1) _ i _ (left-beside r) _ (r .before .without .ensures))
+
+  is-bounded-requires : branch-lts.Need-is-bounded-requires (calls t) (branch-at t) branch.Post
+  is-bounded-requires c κs = 
+      let r = c .before .before .before .before in
+      with-boundable _ _ _ _ _ _ _ (c .before .before .before .before .before .before .before .before .before .before .before .before .before .before .before .before .before .before .before .before .before .pre .1) _ (r .before .before .choose .ensures) _ (left-beside r)
 
   same-length-2 : branch-lts.Need-same-length-2 (calls t) (branch-at t) branch.Post
   same-length-2 c = search needs
 
   returns-5 : branch-lts.Need-returns-5 (calls t) (branch-at t) branch.Post
-  returns-5 c =
+  returns-5 c = 
       let r = c .before .before .before .before .before .before in
-      skip-adds _ _ _ _ _ _ _ (c .before .before .before .before .before .before .before .before .before .before .before .before .before .before .before .before .before .before .before .before .before .before .before .pre .1) _ (picked (r .before .before)) _ (left-beside r) _ (r .before .without .ensures) (c .before .before .before .before .before .is-bounded .ensures (c .before .before .before .before .if5 .taken)) _ _ _ (c .before .before .branch .ensures)
+      without-adds _ _ _ _ _ _ _ (c .before .before .before .before .before .before .before .before .before .before .before .before .before .before .before .before .before .before .before .before .before .before .before .pre .1) _ (r .before .before .choose .ensures) _ (left-beside r) _ (r .before .without .ensures) _ _ _ (c .before .before .before .before .branch .ensures)
+      (c .before .is-bounded .ensures (c .if5 .taken))
 
   with-requires : branch-lts.Need-with-requires (calls t) (branch-at t) branch.Post
-  with-requires c κs = omega (arith, vertex (c .before .before .before .before), (c .before .before .before .before .before .before .before .before .before .before .before .before .before .before .before .before .before .before .before .pre .1) .settled .most)
+  with-requires c κs = omega (arith, vertex (c .before .before .before .before .before .before .before .before), (c .before .before .before .before .before .before .before .before .before .before .before .before .before .before .before .before .before .before .before .before .before .before .before .pre .1) .settled .most)
 
   branch-requires-2 : branch-lts.Need-branch-requires-2 (calls t) (branch-at t) branch.Post
-  branch-requires-2 c κs =
-      let r = c .before .before .before .before in
-      let i = picked (r .before .before) in
-      (omega (arith, with-falls _ _ _ _ _ _ _ (c .before .before .before .before .before .before .before .before .before .before .before .before .before .before .before .before .before .before .before .before .before .pre .1) _ i _ (left-beside r), c .before .before .before .before .before .before .before .before .before .before .before .before .before .before .before .before .before .before .before .before .before .pre .0), with-ready _ _ _ _ _ _ _ (c .before .before .before .before .before .before .before .before .before .before .before .before .before .before .before .before .before .before .before .before .before .pre .1) _ i _ (left-beside r) _ (c .before .with .ensures))
-
-  branch-requires-3 : branch-lts.Need-branch-requires-3 (calls t) (branch-at t) branch.Post
-  branch-requires-3 c κs =
+  branch-requires-2 c κs = 
       let r = c .before .before .before .before .before .before .before .before in
-      let i = picked (r .before .before) in (
-        omega (arith, without-falls _ _ _ _ _ _ _ (c .before .before .before .before .before .before .before .before .before .before .before .before .before .before .before .before .before .before .before .before .before .before .before .before .before .pre .1) _ i _ (left-beside r) _ (r .before .without .ensures), c .before .before .before .before .before .before .before .before .before .before .before .before .before .before .before .before .before .before .before .before .before .before .before .before .before .pre .0),
-        without-ready _ _ _ _ _ _ _ (c .before .before .before .before .before .before .before .before .before .before .before .before .before .before .before .before .before .before .before .before .before .before .before .before .before .pre .1) _ i _ (left-beside r) _ (r .before .without .ensures) _ _ (c .before .before .before .before .before .with .ensures) (c .before .before .before .branch2 .ensures .counts),
-      )
+      let i = r .before .before .choose .ensures in
+      (omega (arith, with-falls _ _ _ _ _ _ _ (c .before .before .before .before .before .before .before .before .before .before .before .before .before .before .before .before .before .before .before .before .before .before .before .before .before .pre .1) _ i _ (left-beside r), c .before .before .before .before .before .before .before .before .before .before .before .before .before .before .before .before .before .before .before .before .before .before .before .before .before .pre .0),
+      with-ready _ _ _ _ _ _ _ (c .before .before .before .before .before .before .before .before .before .before .before .before .before .before .before .before .before .before .before .before .before .before .before .before .before .pre .1) _ i _ (left-beside r) _ (r .before .without .ensures) _ _ _ (c .before .before .before .before .before .before .branch .ensures) _ (c .before .with .ensures))
 
   same-length-3 : branch-lts.Need-same-length-3 (calls t) (branch-at t) branch.Post
   same-length-3 c = search needs
 
   returns-6 : branch-lts.Need-returns-6 (calls t) (branch-at t) branch.Post
-  returns-6 c =
+  returns-6 c = 
       let r = c .before .before .before .before .before .before .before .before .before .before .before in
-      branches-add _ _ _ _ _ _ _ (c .before .before .before .before .before .before .before .before .before .before .before .before .before .before .before .before .before .before .before .before .before .before .before .before .before .before .before .before .pre .1) _ (picked (r .before .before)) _ (left-beside r) _ (r .before .without .ensures) _ _ _ _ _ _ (c .before .before .before .before .before .before .before .before .with .ensures) (c .before .before .before .before .before .before .branch2 .ensures) (c .before .before .branch3 .ensures)
+      branches-add _ _ _ _ _ _ _ (c .before .before .before .before .before .before .before .before .before .before .before .before .before .before .before .before .before .before .before .before .before .before .before .before .before .before .before .before .pre .1) _ (r .before .before .choose .ensures) _ (left-beside r) _ (r .before .without .ensures) _ _ _ (c .before .before .before .before .before .before .before .before .before .branch .ensures) _ (c .before .before .before .before .with .ensures) _ _
+      (c .before .before .branch2 .ensures)
 
 pub +branch-spec : {M : Type 1} → statement M
 +branch-spec =
@@ -207,15 +203,14 @@ pub +branch-spec : {M : Type 1} → statement M
     (among-requires t)
     (is-empty-requires t)
     (returns-4 t)
-    (pick-requires t)
+    (choose-requires t)
     (without-requires t)
     (beside-requires t)
-    (is-bounded-requires t)
     (branch-requires t)
+    (is-bounded-requires t)
     (same-length-2 t)
     (returns-5 t)
     (with-requires t)
     (branch-requires-2 t)
-    (branch-requires-3 t)
     (same-length-3 t)
     (returns-6 t))

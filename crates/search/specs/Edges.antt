@@ -1,0 +1,81 @@
+-- The starred edges of document 01, "Edges to run", as one table that the checker computes: what the definitions give, beside what the document says.
+use Prim.Native.Nat.{ℕ}
+use mathlib.Core.Bool.{Bool, true, false, _&&_}
+use mathlib.Core.List.{List, [], _∷_}
+use lib.Count.{ones, onesIn}
+use lib.Dec.{T, eqb}
+use Rattle.sets.specs.Ranges.{from, range, first, all, any, keep, total, greatest, joined}
+use Rattle.sets.specs.Set.{bit, has, subset, with, minus, setOf, members}
+use Rattle.sets.specs.Graph.{row}
+use Rattle.judging.specs.Graph.{adjacent, degree, missing}
+use Rattle.judging.specs.Plex.{plex, maximal}
+use Rattle.judging.specs.Refusal.{Reply, refused, answered, firstOf, outside, vertexCause, slackCause, floorCause, badRow, oneWay, lowestRow, rowCause, edgeCause, graphCauses, setCause, vertexOutCause}
+use Rattle.judging.specs.Calls.{graphCheck, slackCheck, requestCheck, setCheck}
+use Rattle.bounds.specs.Core.{dense, core}
+use Rattle.bounds.specs.Reach.{reach}
+use Rattle.bounds.specs.Bound.{support, usable, ordered, supports, affordable, firstBound, lesser, least, payer, kept, secondBound, largest}
+use Rattle.bounds.specs.Calls.{coreReply, reachCheck, reachReply}
+use Rattle.bounds.specs.BoundCalls.{overlap, misplaced, boundCause, boundCheck, firstBoundReply, secondBoundReply}
+use Rattle.search.specs.Listing.{listed, listing}
+
+-- ---- the graphs
+
+ring5 : List ℕ
+ring5 = 0x12 ∷ 0x05 ∷ 0x0A ∷ 0x14 ∷ 0x09 ∷ []
+
+ring4 : List ℕ
+ring4 = 0xA ∷ 0x5 ∷ 0xA ∷ 0x5 ∷ []
+
+apart3 : List ℕ
+apart3 = 0 ∷ 0 ∷ 0 ∷ []
+
+single : List ℕ
+single = 0 ∷ []
+
+path4 : List ℕ
+path4 = 0x2 ∷ 0x5 ∷ 0xA ∷ 0x4 ∷ []
+
+-- 0, 1, 2 all adjacent; 3 adjacent to all others; 4, 5, 6 adjacent to 1, 2 and 3
+seven : List ℕ
+seven = 0x0E ∷ 0x7D ∷ 0x7B ∷ 0x77 ∷ 0x0E ∷ 0x0E ∷ 0x0E ∷ []
+
+-- ---- the table
+
+-- what is computed, and what the document says it is
+pub data Edge : Type 0 where
+  edge : List ℕ → List ℕ → Edge
+
+-- the number of a reply, its value, and what was found
+pub shown : Reply ℕ → List ℕ
+shown (refused n v) = n ∷ v ∷ []
+shown (answered v x) = 0 ∷ v ∷ x ∷ []
+
+agree : List ℕ → List ℕ → Bool
+agree [] [] = true
+agree [] (y ∷ ys) = false
+agree (x ∷ xs) [] = false
+agree (x ∷ xs) (y ∷ ys) = eqb x y && agree xs ys
+
+pub hold : List Edge → Bool
+hold [] = true
+hold (edge a b ∷ es) = agree a b && hold es
+
+pub edges : List Edge
+edges =
+    edge (listing ring5 2 3) (0x07 ∷ 0x0E ∷ 0x13 ∷ 0x19 ∷ 0x1C ∷ [])
+    ∷ edge (shown (coreReply ring5 2 4)) (0 ∷ 0 ∷ 0x1F ∷ [])
+    ∷ edge (shown (coreReply ring5 2 5)) (0 ∷ 0 ∷ 0 ∷ [])
+    ∷ edge (listing ring4 2 4) (0xF ∷ [])
+    ∷ edge (listing ring4 1 2) (0x3 ∷ 0x6 ∷ 0x9 ∷ 0xC ∷ [])
+    ∷ edge (listing apart3 1 1) (1 ∷ 2 ∷ 4 ∷ [])
+    ∷ edge (listing apart3 2 3) []
+    ∷ edge (listing single 1 1) (1 ∷ [])
+    ∷ edge (shown (reachReply path4 0)) (0 ∷ 0 ∷ 7 ∷ [])
+    ∷ edge (shown (firstBoundReply seven 2 0x07 0x78 3)) (0 ∷ 0 ∷ 8 ∷ [])
+    ∷ edge (shown (secondBoundReply seven 2 0x07 0x78 3)) (0 ∷ 0 ∷ 6 ∷ [])
+    ∷ edge (largest seven 2 0x07 0x78 3 ∷ []) (5 ∷ [])
+    ∷ []
+
+pub edges-hold : T (hold edges)
+unfolding hold edges shown agree ring5 ring4 apart3 single path4 seven from range first all any keep total greatest joined bit has ones onesIn subset with minus setOf members row adjacent degree missing plex maximal firstOf outside vertexCause slackCause floorCause badRow oneWay lowestRow rowCause edgeCause graphCauses setCause vertexOutCause graphCheck slackCheck requestCheck setCheck dense core reach support usable ordered supports affordable firstBound lesser least payer kept secondBound largest coreReply reachCheck reachReply overlap misplaced boundCause boundCheck firstBoundReply secondBoundReply listed listing
+edges-hold = tt
