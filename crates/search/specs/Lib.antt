@@ -16,4 +16,5 @@ pub mod NearLaws
 pub mod Ready
 pub mod Calls
 pub mod TopLaws
+pub mod Cliques
 pub mod Edges

@@ -199,13 +199,10 @@ module _ (g t : List ℕ) (k q s c count : ℕ) (h : Ready g t k q s c count) wh
                 (branches-apart g k q s c v r i (h .fine .apart v i) (m .kept)) others
                 (subst (λ (u : ℕ). Adds (2 ^ length g) (found g k q u r) between n after o) z y))
 
--- ---- what the code of a leaf adds
+-- ---- what a leaf adds, where it is known whether it is to be placed
 
-pub leaf-none : (g : List ℕ) (k a : ℕ) (slots : List ℕ) (count : ℕ) → swallowed g k a ≡ true → Adds (2 ^ length g) (unless (swallowed g k a) a) slots count slots count
-leaf-none g k a slots count e =
-    adds-none (2 ^ length g) (unless (swallowed g k a) a) slots count (λ y l z. subst (λ (b : Bool). T (unless b a y)) e z)
+pub unless-none : (N : ℕ) (b : Bool) (a : ℕ) (slots : List ℕ) (count : ℕ) → b ≡ true → Adds N (unless b a) slots count slots count
+unless-none N b a slots count e = adds-none N (unless b a) slots count (λ y l z. subst (λ (u : Bool). T (unless u a y)) e z)
 
-pub leaf-one : (g : List ℕ) (k a : ℕ) (before after : List ℕ) (count r : ℕ) → swallowed g k a ≡ false → Adds (2 ^ length g) (only a) before count after r
-    → Adds (2 ^ length g) (unless (swallowed g k a) a) before count after r
-leaf-one g k a before after count r e x =
-    adds-same (2 ^ length g) (only a) (unless (swallowed g k a) a) before after count r (λ y l. ap (λ (b : Bool). unless b a y) (sym e)) x
+pub unless-one : (N : ℕ) (b : Bool) (a : ℕ) (before after : List ℕ) (count r : ℕ) → b ≡ false → Adds N (only a) before count after r → Adds N (unless b a) before count after r
+unless-one N b a before after count r e x = adds-same N (only a) (unless b a) before after count r (λ y l. ap (λ (u : Bool). unless u a y) (sym e)) x

@@ -9,6 +9,7 @@ ghost use Rattle.search.specs.Calls.{Lists};
 
 pub mod branch;
 pub mod choice;
+pub mod cliques;
 pub mod cut;
 pub mod near;
 pub mod partition;

@@ -1,0 +1,20 @@
+-- `search::cliques::agenda` meets its contract: all candidates cover those of any pivot.
+use Rattle.search.specs.Cliques.{all-cover}
+use borrow.Author.Needs.{needs}
+use Rattle.search.proofs.cliques.agenda.Statement.{statement}
+use Rattle.search.proofs.cliques.agenda.Tie as tie
+
+size-requires : tie.Need-size-requires
+size-requires c κs = search needs
+
+returns : tie.Need-returns
+returns c = all-cover _ _ _ (c .before .before .before .pre)
+
+pivot-requires : tie.Need-pivot-requires
+pivot-requires c κs = search needs
+
+returns-2 : tie.Need-returns-2
+returns-2 c = search needs
+
+pub agenda-spec : {M : Type 1} → statement M
+agenda-spec = tie.close (tie.spec size-requires returns pivot-requires returns-2)
