@@ -7,10 +7,10 @@
 use Prim.Native.Nat.{ℕ, suc, _+_, _^_, _≤_, _<_}
 use native.Mathlib.Omega.{arith}
 use native.Mathlib.Nat.{le-refl}
-use native.Mathlib.Decide.{ℕ-discrete, decLt, decLe}
+use native.Mathlib.Decide.{ℕ-discrete, decLt}
 use mathlib.Core.Path.{_≡_, refl, sym, ap, _∙_, subst}
 use mathlib.Core.Logic.{_≢_}
-use mathlib.Core.Bool.{Bool, true, false}
+use mathlib.Core.Bool.{Bool, false}
 use mathlib.Core.List.{List}
 use lib.Bits.{bitAnd, bitOr}
 use lib.Dec.{T, eqb, ltb, eqb→eq, eqb-refl}
@@ -22,16 +22,16 @@ use Rattle.sets.specs.Set.{bit, In, Sub, size, with, without, minus}
 use Rattle.sets.specs.Graph.{row}
 use Rattle.sets.specs.Words.{width}
 use Rattle.sets.specs.BitLaws.{ext, bit-le, bit-and, bit-or, bit-minus, bit-high, bit-pow-other}
-use Rattle.sets.specs.SubsetLaws.{sub-refl, sub-trans, sub-number, sub-below, in-of-sub, in-below, with-sub, with-same, with-other, with-below, sub-with, without-same, without-other, minus-sub, positive}
-use Rattle.sets.specs.SizeLaws.{sub-size-eq, positive-size, size-one, size-mono, size-or, size-with, some-member, two-members, and-below, minus-below}
+use Rattle.sets.specs.SubsetLaws.{sub-refl, sub-trans, sub-number, sub-below, in-of-sub, in-below, with-same, with-other, with-below, sub-with, without-same, without-other, minus-sub}
+use Rattle.sets.specs.SizeLaws.{sub-size-eq, positive-size, size-one, size-mono, size-or, size-with, some-member, two-members, and-below}
 use Rattle.sets.specs.WalkLaws.{without-less}
 use Rattle.judging.specs.Graph.{missing, Valid}
 use Rattle.judging.specs.Plex.{Plex, Maximal}
 use Rattle.judging.specs.GraphLaws.{missing-with}
 use Rattle.judging.specs.PlexLaws.{maximal-by-one, one-by-maximal}
 use Rattle.search.specs.Listing.{Listed}
-use Rattle.search.specs.Found.{found, Found, Empty}
-use Rattle.search.specs.FoundLaws.{found-holds, found-test, cut-none, branches, branches-apart, with-found, without-found, found-without}
+use Rattle.search.specs.Found.{found, Found}
+use Rattle.search.specs.FoundLaws.{found-holds, found-test, cut-none, branches, branches-apart, found-without}
 use Rattle.search.specs.Choice.{Pickable}
 use Rattle.search.specs.TrimLaws.{Kept}
 use Rattle.search.specs.Placing.{number, union, only, Adds}
@@ -289,12 +289,12 @@ module _ (g : List ℕ) (q have s c m todo count : ℕ) (h : Cliquing g q have s
                   below = and-below (length g) m (row g v) (h .common .below);
                   beside = λ x2 u ix iu. near x2 u ix iu (ℕ-discrete v u);
                   every = λ x2 lx f.
-                    omega (
-                      arith,
-                      bit-and m (row g v) x2,
-                      h .common .every x2 lx (λ u iu. f u (in-of-sub s (with s v) u (sub-with s v) iu)),
-                      f v (with-same s v),
-                    );
+                      omega (
+                        arith,
+                        bit-and m (row g v) x2,
+                        h .common .every x2 lx (λ u iu. f u (in-of-sub s (with s v) u (sub-with s v) iu)),
+                        f v (with-same s v),
+                      );
                 }
               where
                 near : (x2 u : ℕ) → In x2 (bitAnd m (row g v)) → In u (with s v) → Dec (v ≡ u) → In x2 (row g u)
@@ -346,9 +346,9 @@ module _ (g : List ℕ) (q have s c m todo count : ℕ) (h : Cliquing g q have s
               top =
                   maximal-by-one g 1 (with s v) grown (λ x2 lx ex p.
                   let inside : In x2 (bitAnd m (row g v)) = next-common .every x2 lx (λ u iu. clique-adjacent g (h .valid) (with (with s v) x2) u x2
-                        (with-below (length g) (with s v) x2 (with-below (length g) s v (h .below) clique-vertex) lx) p
-                        (in-of-sub (with s v) (with (with s v) x2) u (sub-with (with s v) x2) iu) (with-same (with s v) x2)
-                        (λ y. omega (arith, iu, subst (λ (t : ℕ). bit (with s v) t ≡ 0) (sym y) ex))) in
+                  (with-below (length g) (with s v) x2 (with-below (length g) s v (h .below) clique-vertex) lx) p
+                  (in-of-sub (with s v) (with (with s v) x2) u (sub-with (with s v) x2) iu) (with-same (with s v) x2)
+                  (λ y. omega (arith, iu, subst (λ (t : ℕ). bit (with s v) t ≡ 0) (sym y) ex))) in
                   omega (arith, inside, ap (λ (y : ℕ). bit y x2) ew, ap (λ (y : ℕ). bit y x2) alone, bit-high 0 x2 (pow-pos x2)))
 
               whole : bitOr (with s v) r ≡ with s v
@@ -423,7 +423,7 @@ pivot-covers g c m p r i e =
 -- a pivot that is adjacent to every candidate leaves none
 pub pivot-none : (g : List ℕ) (c m p r : ℕ) → In p m → missing g c p ≡ 0 → r ≡ 0 → Covering g c m r
 unfolding missing
-pivot-none g c m p r i z e = pivot-covers g c m p r i (e ∙ (sub-size-eq 0 (minus c (row g p)) (λ u. omega (arith, bit-high 0 u (pow-pos u))) (omega (arith, z)) ))
+pivot-none g c m p r i z e = pivot-covers g c m p r i (e ∙ (sub-size-eq 0 (minus c (row g p)) (λ u. omega (arith, bit-high 0 u (pow-pos u))) (omega (arith, z))))
 
 pub all-cover : (g : List ℕ) (c m : ℕ) → Pickable g m → Covering g c m c
 all-cover g c m h =

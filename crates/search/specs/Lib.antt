@@ -15,6 +15,6 @@ pub mod NearRows
 pub mod NearLaws
 pub mod Ready
 pub mod Calls
-pub mod TopLaws
 pub mod Cliques
+pub mod TopLaws
 pub mod Edges

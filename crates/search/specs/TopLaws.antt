@@ -4,7 +4,7 @@
 --   Accepted g k q       what is known of a request that passes the checks
 use Prim.Native.Nat.{ℕ, _+_, _*_, _-_, _^_, _≤_, _<_}
 use native.Mathlib.Omega.{arith}
-use native.Mathlib.Nat.{lt-of-lt-of-le}
+use native.Mathlib.Nat.{lt-of-lt-of-le, le-refl}
 use native.Mathlib.Decide.{ℕ-discrete}
 use mathlib.Core.Path.{_≡_, sym, ap, _∙_, subst}
 use mathlib.Core.Bool.{Bool, cond}
@@ -13,12 +13,12 @@ use lib.Count.{ones-le}
 use lib.Pow.{pow-pos, pow-mono, ones-lt}
 use lib.ListN.{length, drop, replicate}
 use borrow.Author.Tests.{le-leb, lt-leb, lt-ltb, le-ltb}
-use Rattle.sets.specs.Set.{bit, In, Sub, with, full}
+use Rattle.sets.specs.Set.{bit, In, Sub, size, with, full}
 use Rattle.sets.specs.Words.{width, masks}
 use Rattle.sets.specs.Words.Operations.{count-masks}
 use Rattle.sets.specs.BitLaws.{bit-or, bit-high}
 use Rattle.sets.specs.WordLaws.{bit-full}
-use Rattle.sets.specs.SubsetLaws.{sub-of-in, in-below, with-other}
+use Rattle.sets.specs.SubsetLaws.{positive, sub-of-in, in-below, with-other}
 use Rattle.judging.specs.Graph.{missing, Valid}
 use Rattle.judging.specs.Setting.{Sized}
 use Rattle.judging.specs.GraphLaws.{missing-with, degree-missing}
@@ -29,12 +29,14 @@ use Rattle.bounds.specs.Core.{core}
 use Rattle.bounds.specs.CoreLaws.{core-below, plex-core}
 use Rattle.search.specs.Listing.{listed, listing, Listed}
 use Rattle.search.specs.ListingLaws.{listed-test, listed-holds, listing-fits, listing-placed, listing-passing}
-use Rattle.search.specs.Placing.{Adds}
+use Rattle.search.specs.Placing.{number, Adds}
 use Rattle.search.specs.PlacingLaws.{same-test, number-same, adds-same, adds-all}
 use Rattle.search.specs.Found.{found, Compatible, Near}
 use Rattle.search.specs.FoundLaws.{found-holds, found-test}
 use Rattle.search.specs.NearRows.{Pairing}
 use Rattle.search.specs.Ready.{Ready}
+use Rattle.search.specs.Choice.{Pickable}
+use Rattle.search.specs.Cliques.{Common, Covering, Cliquing, pivot-hits, start-common}
 use Rattle.search.specs.Calls.{slotsCause, listReply, placed, slotsAfter, afterCheck}
 
 pub record Candidates (g : List ℕ) (k q c : ℕ) : Type 0 where
@@ -98,6 +100,16 @@ module _ (g : List ℕ) (k q : ℕ) where
         listed = h;
       }))
 
+  -- there is room to count them all
+  pub start-room : (s c : ℕ) → s ≡ 0 → Accepted g k q → Candidates g k q c → 0 + number (2 ^ length g) (found g k q s c) < 2 ^ 64
+  start-room s c e a d =
+      omega (
+        arith,
+        number-same (2 ^ length g) (found g k q s c) (listed g k q) (start-found s c e d),
+        ap length (listing-passing g k q),
+        lt-of-lt-of-le (listing-fits g k q (omega (arith, a .slack, a .floor))) (pow-mono (a .sized .most)),
+      )
+
   pub start-ready : (t : List ℕ) (s c : ℕ) → s ≡ 0 → Accepted g k q → Candidates g k q c → length g ≤ length t → Near g k q t → Ready g t k q s c 0
   start-ready t s c e a d long near =
       record {
@@ -112,14 +124,7 @@ module _ (g : List ℕ) (k q : ℕ) where
               near = near;
             };
         fine = start-compatible s c e a d;
-        room =
-            omega (
-              arith,
-              number-same (2 ^ length g) (found g k q s c) (listed g k q) (start-found s c e d),
-              ap length (listing-passing g k q),
-              listing-fits g k q (omega (arith, a .slack, a .floor)),
-              lt-of-lt-of-le (listing-fits g k q (omega (arith, a .slack, a .floor))) (pow-mono (a .sized .most)),
-            );
+        room = start-room s c e a d;
       }
 
   pub start-adds : (s c : ℕ) → s ≡ 0 → Candidates g k q c → (before after : List ℕ) (m : ℕ)
@@ -196,3 +201,31 @@ module _ (g : List ℕ) (k q : ℕ) where
     list-cleared l =
         ap (λ (b : Bool). cond b (listing g k q ++ drop (length (listing g k q)) before) (replicate (length before) 0)) (sym (lt-leb (length (listing g k q)) (length before) (omega (arith, counted))))
         ∙ given before
+
+-- ---- the start for slack 1, by a pivot
+
+module _ (g : List ℕ) (q c m : ℕ) (a : Accepted g 1 q) (d : Candidates g 1 q c) (e : m ≡ full (length g)) where
+  pub start-pickable : Pickable g m
+  start-pickable =
+      subst (Pickable g) (sym e) (record { some = positive (full (length g)) 0 (bit-full (length g) 0 (a .sized .some)); below = ones-lt (length g) })
+
+  in-every : (v : ℕ) → v < length g → In v m
+  in-every v l = subst (In v) (sym e) (bit-full (length g) v l)
+
+  pub start-cliquing : (s todo : ℕ) → s ≡ 0 → Covering g c m todo → Cliquing g q 0 s c m todo 0
+  start-cliquing s todo z cover =
+      let near : Common g s m = start-common g s m z (start-pickable .below) in-every in
+      record {
+        some = a .sized .some;
+        most = a .sized .most;
+        valid = a .valid;
+        floor = a .floor .1;
+        below = start-compatible g 1 q s c z a d .below;
+        counted = omega (arith, ap size z, ones-le 0 0 (pow-pos 0));
+        clique = start-compatible g 1 q s c z a d .plexed;
+        common = near;
+        part = sub-of-in c m (λ v i. in-every v (in-below (length g) c v (d .below) i));
+        within = cover .part;
+        hits = pivot-hits g 1 q s c m todo (a .valid) (le-refl 1) near cover;
+        room = start-room g 1 q s c z a d;
+      }

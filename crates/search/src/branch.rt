@@ -61,10 +61,36 @@ pub fn branch(
     let v = crate::choice::choose(rows, a, c, from, wide);
     let rest = sets::without(c, v);
     let kept = crate::trim::beside(rows, near, k, s, c, v);
-    let others = branch(rows, near, k, q, parted, swallow, second, wide, s, rest, slots, count);
+    let others = branch(
+        rows,
+        near,
+        k,
+        q,
+        parted,
+        swallow,
+        second,
+        wide,
+        s,
+        rest,
+        slots,
+        count,
+    );
     if crate::cut::is_bounded(rows, k, q, second, s, kept, v) {
         return others;
     }
     let joined = sets::with(s, v);
-    branch(rows, near, k, q, parted, swallow, second, wide, joined, kept, slots, others)
+    branch(
+        rows,
+        near,
+        k,
+        q,
+        parted,
+        swallow,
+        second,
+        wide,
+        joined,
+        kept,
+        slots,
+        others,
+    )
 }

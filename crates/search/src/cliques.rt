@@ -1,6 +1,5 @@
 // Slack 1, where a plex is a clique: the search by a pivot.
-ghost use mathlib.Core.Path.{_≡_};
-ghost use Prim.Native.Nat.{_+_, _^_, _≤_, _<_};
+ghost use Prim.Native.Nat.{_+_, _^_, _<_};
 ghost use lib.Dec.{ltb};
 ghost use lib.ListN.{length};
 ghost use Rattle.sets.specs.Words.{mask, masks};
@@ -9,7 +8,6 @@ ghost use Rattle.search.specs.Placing.{Adds};
 ghost use Rattle.search.specs.Ready.{unless};
 ghost use Rattle.search.specs.Cliques.{Covering, Placeable, Cliquing};
 ghost use Rattle.search.specs.Choice.{Pickable};
-
 use sets::Set;
 
 // The candidates that some vertex of m, the pivot, is not adjacent to. The pivot is the one with the fewest.
@@ -47,7 +45,14 @@ pub fn agenda(rows: &[u64], c: Set, m: Set, wide: usize) -> Set
 }
 
 // Places the clique s, which is maximal, if its `have` members are enough.
-pub fn place_clique(q: usize, have: usize, s: Set, n: usize, slots: &mut [u64], count: usize) -> usize
+pub fn place_clique(
+    q: usize,
+    have: usize,
+    s: Set,
+    n: usize,
+    slots: &mut [u64],
+    count: usize,
+) -> usize
     requires { ⌜ Placeable n q have (mask s) count ⌝ }
     ensures { λ r. ⌜ Adds (2 ^ n) (unless (ltb have q) (mask s)) (masks (now (slots .entry))) count (masks (now (slots .exit))) r ⌝ }
 {
@@ -94,5 +99,16 @@ pub fn cliques(
         return others;
     }
     let next = agenda(rows, inside, beside, wide);
-    cliques(rows, q, wide, more, joined, inside, beside, next, slots, others)
+    cliques(
+        rows,
+        q,
+        wide,
+        more,
+        joined,
+        inside,
+        beside,
+        next,
+        slots,
+        others,
+    )
 }

@@ -36,10 +36,12 @@ pub struct Cuts {
     pub second: bool,
     pub parted: bool,
     pub swallow: bool,
+    pub pivot: bool,
 }
 
 // From so many slots on the order in which masks are found matters, and so deep below the top it is kept.
 const MANY_SLOTS: usize = 16384;
+
 const DEEP: usize = 20;
 
 // The vertices to start from: the core, or all.
@@ -61,15 +63,30 @@ fn spread(room: usize, n: usize) -> usize {
     n - DEEP
 }
 
+// The same for slack 1, by a pivot.
+fn enumerate_cliques(rows: &[u64], q: usize, wide: usize, all: Set, slots: &mut [u64]) -> usize
+    requires { ⌜ Accepted (masks (now rows)) 1 q × Candidates (masks (now rows)) 1 q (mask all) ⌝ }
+    ensures { λ r. ⌜ Adds (2 ^ length (masks (now (rows .entry)))) (listed (masks (now (rows .entry))) 1 q) (masks (now (slots .entry))) 0 (masks (now (slots .exit))) r ⌝ }
+{
+    let every = sets::full(sets::count(rows));
+    let todo = cliques::agenda(rows, all, every, wide);
+    cliques::cliques(rows, q, wide, 0, sets::empty(), all, every, todo, slots, 0)
+}
+
 // Places every maximal k-plex of at least q members while the slots have room, and counts them all.
 pub fn enumerate(rows: &[u64], k: usize, q: usize, cuts: Cuts, slots: &mut [u64]) -> usize
     requires { ⌜ Accepted (masks (now rows)) k q ⌝ }
     ensures { λ r. ⌜ Adds (2 ^ length (masks (now (rows .entry)))) (listed (masks (now (rows .entry))) k q) (masks (now (slots .entry))) 0 (masks (now (slots .exit))) r ⌝ }
 {
     let all = candidates(rows, k, q, cuts.core);
+    let wide = spread(sets::count(slots), sets::size(all));
+    if cuts.pivot {
+        if k == 1 {
+            return enumerate_cliques(rows, q, wide, all, slots);
+        }
+    }
     let mut near = [0u64; sets::WIDTH];
     near::fill(rows, k, q, all, cuts.reach, cuts.pairs, &mut near);
-    let wide = spread(sets::count(slots), sets::size(all));
     branch::branch(
         rows,
         &near,
@@ -119,6 +136,7 @@ pub fn list(rows: &[u64], request: Request, slots: &mut [u64]) -> ListFound
             second: false,
             parted: true,
             swallow: true,
+            pivot: true,
         },
         slots,
     )

@@ -87,7 +87,7 @@ module _ (t : ℕ) where
   survey-requires c κs = ready-inside _ _ _ _ _ _ _ (c .before .before .before .before .before .before .pre .1) _ (c .before .before .join .ensures)
 
   leaf-requires : branch-lts.Need-leaf-requires (calls t) (branch-at t) branch.Post
-  leaf-requires c κs = 
+  leaf-requires c κs =
       record {
         below = ready-inside _ _ _ _ _ _ _ (c .before .before .before .before .before .before .before .before .before .before .pre .1) _ (c .before .before .before .before .before .before .join .ensures) .below;
         unblocking = survey-free _ _ _ 0 _ _ _ refl (c .before .before .before .survey .ensures);
@@ -98,7 +98,7 @@ module _ (t : ℕ) where
   same-length c = search needs
 
   returns-2 : branch-lts.Need-returns-2 (calls t) (branch-at t) branch.Post
-  returns-2 c = 
+  returns-2 c =
       adds-same _ _ _ _ _ _ _ (leaf-adds _ _ _ _ _ _ _ (c .before .before .before .before .before .before .before .before .before .before .before .before .before .pre .1) _ (c .before .before .before .before .before .before .before .before .before .join .ensures) (survey-plex _ _ _ 0 _ _ _ refl (c .before .before .before .before .before .before .survey .ensures) (c .before .before .before .before .if2 .taken)) (c .before .before .before .before .before .before .before .before .is-short .ensures .1 (c .before .before .before .before .before .before .before .if1 .left)))
       (c .before .before .leaf .ensures)
 
@@ -109,7 +109,7 @@ module _ (t : ℕ) where
   returns-3 c = swallowed-adds _ _ _ _ _ _ _ (c .before .before .before .before .before .before .before .before .before .before .before .pre .1) _ (c .before .before .before .before .before .before .before .join .ensures) _ (c .before .is-swallowed .ensures (c .if3 .taken))
 
   among-requires : branch-lts.Need-among-requires (calls t) (branch-at t) branch.Post
-  among-requires c κs = 
+  among-requires c κs =
       let i = (c .before .before .before .before .survey .ensures) .reached (omega (arith, c .before .before .if2 .left)) .0 in
       record { vertex = in-below _ _ _ (ready-inside _ _ _ _ _ _ _ (c .before .before .before .before .before .before .before .before .before .before .before .pre .1) _ (c .before .before .before .before .before .before .before .join .ensures) .below) i; most = (c .before .before .before .before .before .before .before .before .before .before .before .pre .1) .settled .most }
 
@@ -117,19 +117,19 @@ module _ (t : ℕ) where
   is-empty-requires c κs = tt
 
   returns-4 : branch-lts.Need-returns-4 (calls t) (branch-at t) branch.Post
-  returns-4 c = 
+  returns-4 c =
       let w = (c .before .before .before .before .before .before .before .survey .ensures) .reached (omega (arith, c .before .before .before .before .before .if2 .left)) in
       stuck-adds _ _ _ _ _ _ _ (c .before .before .before .before .before .before .before .before .before .before .before .before .before .before .pre .1) _ (c .before .before .before .before .before .before .before .before .before .before .join .ensures) _ (c .before .before .before .before .before .before .before .survey .result .worst) (w .0) (omega (arith, w .1, c .before .before .before .before .before .if2 .left))
       (c .before .before .among .ensures .none (eqb-true _ _ (sym (c .before .is-empty .ensures) ∙ c .if4 .taken)))
 
   choose-requires : branch-lts.Need-choose-requires (calls t) (branch-at t) branch.Post
-  choose-requires c κs = 
+  choose-requires c κs =
       record {
         pickable =
-          record {
-            some = positive-of _ (eqb-false _ _ (sym (c .before .is-empty .ensures) ∙ c .if4 .left));
-            below = sub-below _ _ _ (c .before .before .among .ensures .part) ((c .before .before .before .before .before .before .before .before .before .before .before .before .before .before .pre .1) .fine .candidates);
-          };
+            record {
+              some = positive-of _ (eqb-false _ _ (sym (c .before .is-empty .ensures) ∙ c .if4 .left));
+              below = sub-below _ _ _ (c .before .before .among .ensures .part) ((c .before .before .before .before .before .before .before .before .before .before .before .before .before .before .pre .1) .fine .candidates);
+            };
         part = c .before .before .among .ensures .part;
       }
 
@@ -149,14 +149,15 @@ module _ (t : ℕ) where
   left-beside c = c .beside .ensures (c .before .before .before .before .before .before .before .before .before .before .before .before .before .before .before .before .before .args .q) ((c .before .before .before .before .before .before .before .before .before .before .before .before .before .before .before .before .before .pre .1) .settled .near)
 
   branch-requires : branch-lts.Need-branch-requires (calls t) (branch-at t) branch.Post
-  branch-requires c κs = 
+  branch-requires c κs =
       let r = c .before in
-      let i = r .before .before .choose .ensures in
-      (omega (arith, without-falls _ _ _ _ _ _ _ (c .before .before .before .before .before .before .before .before .before .before .before .before .before .before .before .before .before .before .pre .1) _ i _ (left-beside r) _ (r .before .without .ensures), c .before .before .before .before .before .before .before .before .before .before .before .before .before .before .before .before .before .before .pre .0),
-      without-ready _ _ _ _ _ _ _ (c .before .before .before .before .before .before .before .before .before .before .before .before .before .before .before .before .before .before .pre .1) _ i _ (left-beside r) _ (r .before .without .ensures))
+      let i = r .before .before .choose .ensures in (
+        omega (arith, without-falls _ _ _ _ _ _ _ (c .before .before .before .before .before .before .before .before .before .before .before .before .before .before .before .before .before .before .pre .1) _ i _ (left-beside r) _ (r .before .without .ensures), c .before .before .before .before .before .before .before .before .before .before .before .before .before .before .before .before .before .before .pre .0),
+        without-ready _ _ _ _ _ _ _ (c .before .before .before .before .before .before .before .before .before .before .before .before .before .before .before .before .before .before .pre .1) _ i _ (left-beside r) _ (r .before .without .ensures),
+      )
 
   is-bounded-requires : branch-lts.Need-is-bounded-requires (calls t) (branch-at t) branch.Post
-  is-bounded-requires c κs = 
+  is-bounded-requires c κs =
       let r = c .before .before .before .before in
       with-boundable _ _ _ _ _ _ _ (c .before .before .before .before .before .before .before .before .before .before .before .before .before .before .before .before .before .before .before .before .before .pre .1) _ (r .before .before .choose .ensures) _ (left-beside r)
 
@@ -164,7 +165,7 @@ module _ (t : ℕ) where
   same-length-2 c = search needs
 
   returns-5 : branch-lts.Need-returns-5 (calls t) (branch-at t) branch.Post
-  returns-5 c = 
+  returns-5 c =
       let r = c .before .before .before .before .before .before in
       without-adds _ _ _ _ _ _ _ (c .before .before .before .before .before .before .before .before .before .before .before .before .before .before .before .before .before .before .before .before .before .before .before .pre .1) _ (r .before .before .choose .ensures) _ (left-beside r) _ (r .before .without .ensures) _ _ _ (c .before .before .before .before .branch .ensures)
       (c .before .is-bounded .ensures (c .if5 .taken))
@@ -173,17 +174,18 @@ module _ (t : ℕ) where
   with-requires c κs = omega (arith, vertex (c .before .before .before .before .before .before .before .before), (c .before .before .before .before .before .before .before .before .before .before .before .before .before .before .before .before .before .before .before .before .before .before .before .pre .1) .settled .most)
 
   branch-requires-2 : branch-lts.Need-branch-requires-2 (calls t) (branch-at t) branch.Post
-  branch-requires-2 c κs = 
+  branch-requires-2 c κs =
       let r = c .before .before .before .before .before .before .before .before in
-      let i = r .before .before .choose .ensures in
-      (omega (arith, with-falls _ _ _ _ _ _ _ (c .before .before .before .before .before .before .before .before .before .before .before .before .before .before .before .before .before .before .before .before .before .before .before .before .before .pre .1) _ i _ (left-beside r), c .before .before .before .before .before .before .before .before .before .before .before .before .before .before .before .before .before .before .before .before .before .before .before .before .before .pre .0),
-      with-ready _ _ _ _ _ _ _ (c .before .before .before .before .before .before .before .before .before .before .before .before .before .before .before .before .before .before .before .before .before .before .before .before .before .pre .1) _ i _ (left-beside r) _ (r .before .without .ensures) _ _ _ (c .before .before .before .before .before .before .branch .ensures) _ (c .before .with .ensures))
+      let i = r .before .before .choose .ensures in (
+        omega (arith, with-falls _ _ _ _ _ _ _ (c .before .before .before .before .before .before .before .before .before .before .before .before .before .before .before .before .before .before .before .before .before .before .before .before .before .pre .1) _ i _ (left-beside r), c .before .before .before .before .before .before .before .before .before .before .before .before .before .before .before .before .before .before .before .before .before .before .before .before .before .pre .0),
+        with-ready _ _ _ _ _ _ _ (c .before .before .before .before .before .before .before .before .before .before .before .before .before .before .before .before .before .before .before .before .before .before .before .before .before .pre .1) _ i _ (left-beside r) _ (r .before .without .ensures) _ _ _ (c .before .before .before .before .before .before .branch .ensures) _ (c .before .with .ensures),
+      )
 
   same-length-3 : branch-lts.Need-same-length-3 (calls t) (branch-at t) branch.Post
   same-length-3 c = search needs
 
   returns-6 : branch-lts.Need-returns-6 (calls t) (branch-at t) branch.Post
-  returns-6 c = 
+  returns-6 c =
       let r = c .before .before .before .before .before .before .before .before .before .before .before in
       branches-add _ _ _ _ _ _ _ (c .before .before .before .before .before .before .before .before .before .before .before .before .before .before .before .before .before .before .before .before .before .before .before .before .before .before .before .before .pre .1) _ (r .before .before .choose .ensures) _ (left-beside r) _ (r .before .without .ensures) _ _ _ (c .before .before .before .before .before .before .before .before .before .branch .ensures) _ (c .before .before .before .before .with .ensures) _ _
       (c .before .before .branch2 .ensures)

@@ -1,6 +1,6 @@
 -- The proof of the cycle of calls {cliques}: with nothing to take there is nothing to add, and else the cliques without a vertex and with it share the rest.
 -- The measure is the number c, which falls when a candidate leaves it.
-use Prim.Native.Nat.{ℕ, _<_}
+use Prim.Native.Nat.{ℕ}
 use borrow.Fn.Kinds.{In}
 use borrow.Fn.PlainCycle.{Measures, is, falls, and}
 use mathlib.Core.Path.{refl, sym, ap, _∙_}
@@ -83,7 +83,7 @@ module _ (t : ℕ) where
   without-requires-2 c κs = omega (arith, clique-vertex _ _ _ _ _ _ _ _ (c .before .before .before .before .before .before .before .pre .1) _ (c .before .before .highest .ensures .member), (c .before .before .before .before .before .before .before .pre .1) .most)
 
   cliques-requires : cliques-lts.Need-cliques-requires (calls t) (cliques-at t) cliques.Post
-  cliques-requires c κs = 
+  cliques-requires c κs =
       (omega (arith, rest-falls _ _ _ _ _ _ _ _ (c .before .before .before .before .before .before .before .before .before .pre .1) _ (c .before .before .before .before .highest .ensures .member) _ refl _ _ (c .before .before .without .ensures) (c .before .without2 .ensures), c .before .before .before .before .before .before .before .before .before .pre .0), rest-cliquing _ _ _ _ _ _ _ _ (c .before .before .before .before .before .before .before .before .before .pre .1) _ (c .before .before .before .before .highest .ensures .member) _ refl _ _ (c .before .before .without .ensures) (c .before .without2 .ensures))
 
   with-requires : cliques-lts.Need-with-requires (calls t) (cliques-at t) cliques.Post
@@ -102,7 +102,7 @@ module _ (t : ℕ) where
   count-requires c κs = tt
 
   place-clique-requires : cliques-lts.Need-place-clique-requires (calls t) (cliques-at t) cliques.Post
-  place-clique-requires c κs = 
+  place-clique-requires c κs =
       lonely-placeable _ _ _ _ _ _ _ _ (c .before .before .before .before .before .before .before .before .before .before .before .before .before .before .before .before .before .before .pre .1) _ (c .before .before .before .before .before .before .before .before .before .before .before .before .before .highest .ensures .member) _ refl _ _ (c .before .before .before .before .before .before .before .before .before .before .before .without .ensures) (c .before .before .before .before .before .before .before .before .before .before .without2 .ensures) _ _ _ (c .before .before .before .before .before .before .before .before .cliques .ensures) _ _ (c .before .before .before .before .before .with .ensures) (c .before .before .before .before .meet .ensures ∙ ap (bitAnd (mask (c .before .before .before .before .before .before .before .before .before .before .before .before .before .before .before .before .before .before .args .m))) (c .before .before .before .before .before .before .before .before .before .before .before .before .get .ensures)) (eqb-true _ _ (sym (c .before .before .before .is-empty2 .ensures) ∙ c .before .before .if2 .taken))
       _ _ (c .before .count .ensures) refl
 
@@ -110,7 +110,7 @@ module _ (t : ℕ) where
   same-length c = search needs
 
   returns-2 : cliques-lts.Need-returns-2 (calls t) (cliques-at t) cliques.Post
-  returns-2 c = 
+  returns-2 c =
       lonely-adds _ _ _ _ _ _ _ _ (c .before .before .before .before .before .before .before .before .before .before .before .before .before .before .before .before .before .before .before .before .before .pre .1) _ (c .before .before .before .before .before .before .before .before .before .before .before .before .before .before .before .before .highest .ensures .member) _ refl _ _ (c .before .before .before .before .before .before .before .before .before .before .before .before .before .before .without .ensures) (c .before .before .before .before .before .before .before .before .before .before .before .before .before .without2 .ensures) _ _ _ (c .before .before .before .before .before .before .before .before .before .before .before .cliques .ensures) _ _ (c .before .before .before .before .before .before .before .before .with .ensures) (c .before .before .before .before .before .before .before .meet .ensures ∙ ap (bitAnd (mask (c .before .before .before .before .before .before .before .before .before .before .before .before .before .before .before .before .before .before .before .before .before .args .m))) (c .before .before .before .before .before .before .before .before .before .before .before .before .before .before .before .get .ensures)) (eqb-true _ _ (sym (c .before .before .before .before .before .before .is-empty2 .ensures) ∙ c .before .before .before .before .before .if2 .taken))
       _ _ (c .before .before .before .before .count .ensures) refl _ _ (c .before .before .place-clique .ensures)
 
@@ -127,26 +127,27 @@ module _ (t : ℕ) where
   same-length-2 c = search needs
 
   returns-3 : cliques-lts.Need-returns-3 (calls t) (cliques-at t) cliques.Post
-  returns-3 c = 
+  returns-3 c =
       few-empty _ _ _ _ _ _ _ _ (c .before .before .before .before .before .before .before .before .before .before .before .before .before .before .before .before .before .before .before .pre .1) _ (c .before .before .before .before .before .before .before .before .before .before .before .before .before .before .highest .ensures .member) _ (c .before .before .meet2 .ensures ∙ ap (bitAnd (mask (c .before .before .before .before .before .before .before .before .before .before .before .before .before .before .before .before .before .before .before .args .c))) (c .before .before .before .before .before .before .before .before .before .before .before .before .before .get .ensures)) _ _ (c .before .before .before .before .before .before .before .before .before .before .before .before .without .ensures) (c .before .before .before .before .before .before .before .before .before .before .before .without2 .ensures) _ _ _ (c .before .before .before .before .before .before .before .before .before .cliques .ensures) _ _ (c .before .before .before .before .before .before .with .ensures) (c .before .before .before .before .before .meet .ensures ∙ ap (bitAnd (mask (c .before .before .before .before .before .before .before .before .before .before .before .before .before .before .before .before .before .before .before .args .m))) (c .before .before .before .before .before .before .before .before .before .before .before .before .before .get .ensures)) (omega (arith, c .if3 .taken, c .before .size .ensures .0))
 
   agenda-requires : cliques-lts.Need-agenda-requires (calls t) (cliques-at t) cliques.Post
-  agenda-requires c κs = 
+  agenda-requires c κs =
       record {
         some = positive-of _ (eqb-false _ _ (sym (c .before .before .before .before .is-empty2 .ensures) ∙ c .before .before .before .if2 .left));
         below = beside-below _ _ _ _ _ _ _ _ (c .before .before .before .before .before .before .before .before .before .before .before .before .before .before .before .before .before .before .before .pre .1) _ (c .before .before .before .before .before .before .before .before .before .before .before .before .before .before .highest .ensures .member) _ (c .before .before .meet2 .ensures ∙ ap (bitAnd (mask (c .before .before .before .before .before .before .before .before .before .before .before .before .before .before .before .before .before .before .before .args .c))) (c .before .before .before .before .before .before .before .before .before .before .before .before .before .get .ensures)) _ _ (c .before .before .before .before .before .before .before .before .before .before .before .before .without .ensures) (c .before .before .before .before .before .before .before .before .before .before .before .without2 .ensures) _ _ _ (c .before .before .before .before .before .before .before .before .before .cliques .ensures) _ _ (c .before .before .before .before .before .before .with .ensures) (c .before .before .before .before .before .meet .ensures ∙ ap (bitAnd (mask (c .before .before .before .before .before .before .before .before .before .before .before .before .before .before .before .before .before .before .before .args .m))) (c .before .before .before .before .before .before .before .before .before .before .before .before .before .get .ensures));
       }
 
   cliques-requires-2 : cliques-lts.Need-cliques-requires-2 (calls t) (cliques-at t) cliques.Post
-  cliques-requires-2 c κs = 
-      (omega (arith, clique-falls _ _ _ _ _ _ _ _ (c .before .before .before .before .before .before .before .before .before .before .before .before .before .before .before .before .before .before .before .before .before .pre .1) _ (c .before .before .before .before .before .before .before .before .before .before .before .before .before .before .before .before .highest .ensures .member) _ (c .before .before .before .before .meet2 .ensures ∙ ap (bitAnd (mask (c .before .before .before .before .before .before .before .before .before .before .before .before .before .before .before .before .before .before .before .before .before .args .c))) (c .before .before .before .before .before .before .before .before .before .before .before .before .before .before .before .get .ensures)), c .before .before .before .before .before .before .before .before .before .before .before .before .before .before .before .before .before .before .before .before .before .pre .0),
-      next-cliquing _ _ _ _ _ _ _ _ (c .before .before .before .before .before .before .before .before .before .before .before .before .before .before .before .before .before .before .before .before .before .pre .1) _ (c .before .before .before .before .before .before .before .before .before .before .before .before .before .before .before .before .highest .ensures .member) _ (c .before .before .before .before .meet2 .ensures ∙ ap (bitAnd (mask (c .before .before .before .before .before .before .before .before .before .before .before .before .before .before .before .before .before .before .before .before .before .args .c))) (c .before .before .before .before .before .before .before .before .before .before .before .before .before .before .before .get .ensures)) _ _ (c .before .before .before .before .before .before .before .before .before .before .before .before .before .before .without .ensures) (c .before .before .before .before .before .before .before .before .before .before .before .before .before .without2 .ensures) _ _ _ (c .before .before .before .before .before .before .before .before .before .before .before .cliques .ensures) _ _ (c .before .before .before .before .before .before .before .before .with .ensures) (c .before .before .before .before .before .before .before .meet .ensures ∙ ap (bitAnd (mask (c .before .before .before .before .before .before .before .before .before .before .before .before .before .before .before .before .before .before .before .before .before .args .m))) (c .before .before .before .before .before .before .before .before .before .before .before .before .before .before .before .get .ensures)) _ _ refl (c .before .agenda .ensures))
+  cliques-requires-2 c κs = (
+    omega (arith, clique-falls _ _ _ _ _ _ _ _ (c .before .before .before .before .before .before .before .before .before .before .before .before .before .before .before .before .before .before .before .before .before .pre .1) _ (c .before .before .before .before .before .before .before .before .before .before .before .before .before .before .before .before .highest .ensures .member) _ (c .before .before .before .before .meet2 .ensures ∙ ap (bitAnd (mask (c .before .before .before .before .before .before .before .before .before .before .before .before .before .before .before .before .before .before .before .before .before .args .c))) (c .before .before .before .before .before .before .before .before .before .before .before .before .before .before .before .get .ensures)), c .before .before .before .before .before .before .before .before .before .before .before .before .before .before .before .before .before .before .before .before .before .pre .0),
+    next-cliquing _ _ _ _ _ _ _ _ (c .before .before .before .before .before .before .before .before .before .before .before .before .before .before .before .before .before .before .before .before .before .pre .1) _ (c .before .before .before .before .before .before .before .before .before .before .before .before .before .before .before .before .highest .ensures .member) _ (c .before .before .before .before .meet2 .ensures ∙ ap (bitAnd (mask (c .before .before .before .before .before .before .before .before .before .before .before .before .before .before .before .before .before .before .before .before .before .args .c))) (c .before .before .before .before .before .before .before .before .before .before .before .before .before .before .before .get .ensures)) _ _ (c .before .before .before .before .before .before .before .before .before .before .before .before .before .before .without .ensures) (c .before .before .before .before .before .before .before .before .before .before .before .before .before .without2 .ensures) _ _ _ (c .before .before .before .before .before .before .before .before .before .before .before .cliques .ensures) _ _ (c .before .before .before .before .before .before .before .before .with .ensures) (c .before .before .before .before .before .before .before .meet .ensures ∙ ap (bitAnd (mask (c .before .before .before .before .before .before .before .before .before .before .before .before .before .before .before .before .before .before .before .before .before .args .m))) (c .before .before .before .before .before .before .before .before .before .before .before .before .before .before .before .get .ensures)) _ _ refl (c .before .agenda .ensures),
+  )
 
   same-length-3 : cliques-lts.Need-same-length-3 (calls t) (cliques-at t) cliques.Post
   same-length-3 c = search needs
 
   returns-4 : cliques-lts.Need-returns-4 (calls t) (cliques-at t) cliques.Post
-  returns-4 c = 
+  returns-4 c =
       clique-adds _ _ _ _ _ _ _ _ (c .before .before .before .before .before .before .before .before .before .before .before .before .before .before .before .before .before .before .before .before .before .before .before .before .pre .1) _ (c .before .before .before .before .before .before .before .before .before .before .before .before .before .before .before .before .before .before .before .highest .ensures .member) _ (c .before .before .before .before .before .before .before .meet2 .ensures ∙ ap (bitAnd (mask (c .before .before .before .before .before .before .before .before .before .before .before .before .before .before .before .before .before .before .before .before .before .before .before .before .args .c))) (c .before .before .before .before .before .before .before .before .before .before .before .before .before .before .before .before .before .before .get .ensures)) _ _ (c .before .before .before .before .before .before .before .before .before .before .before .before .before .before .before .before .before .without .ensures) (c .before .before .before .before .before .before .before .before .before .before .before .before .before .before .before .before .without2 .ensures) _ _ _ (c .before .before .before .before .before .before .before .before .before .before .before .before .before .before .cliques .ensures) _ (c .before .before .before .before .before .before .before .before .before .before .before .with .ensures) _ _ (c .before .before .cliques2 .ensures)
 
 pub +cliques-spec : {M : Type 1} → statement M
