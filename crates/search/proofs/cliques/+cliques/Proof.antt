@@ -1,6 +1,6 @@
 -- The proof of the cycle of calls {cliques}: with nothing to take there is nothing to add, and else the cliques without a vertex and with it share the rest.
 -- The measure is the number c, which falls when a candidate leaves it.
-use Prim.Native.Nat.{ℕ}
+use Prim.Native.Nat.{ℕ, _<_}
 use borrow.Fn.Kinds.{In}
 use borrow.Fn.PlainCycle.{Measures, is, falls, and}
 use mathlib.Core.Path.{refl, sym, ap, _∙_}
