@@ -2,39 +2,39 @@
 --
 --   Common g s m         m are the vertices that are adjacent to every member of s
 --   Covering g c m r     r are candidates of c, among them all that some vertex of m, the pivot, is not adjacent to
---   Cliquing ..          what a call of the search relies on: s is a clique of `have` members, m its common neighbours, c candidates among them,
---                        and every plex that is to be found meets `todo`
+--   touched g q s b t x  x is listed, holds s, has no member outside s, b and t, and has one in t
+--   Sweeping ..          what a call of the search relies on: s is a clique of `have` members, m its common neighbours, and b and t are apart
+--                        and candidates among them
 use Prim.Native.Nat.{ℕ, suc, _+_, _^_, _≤_, _<_}
 use native.Mathlib.Omega.{arith}
-use native.Mathlib.Nat.{le-refl}
+use native.Mathlib.Nat.{le-refl, lt-of-lt-of-le}
 use native.Mathlib.Decide.{ℕ-discrete, decLt}
-use mathlib.Core.Path.{_≡_, refl, sym, ap, _∙_, subst}
-use mathlib.Core.Logic.{_≢_}
-use mathlib.Core.Bool.{Bool, false}
+use mathlib.Core.Path.{_≡_, sym, ap, _∙_, subst}
+use mathlib.Core.Logic.{_≢_, _⊎_, inl, inr}
+use mathlib.Core.Bool.{Bool, false, not, _&&_}
 use mathlib.Core.List.{List}
 use lib.Bits.{bitAnd, bitOr}
-use lib.Dec.{T, eqb, ltb, eqb→eq, eqb-refl}
+use lib.Dec.{T, eqb, ltb, eqb→eq, eqb-refl, T-not, not-T}
 use lib.Count.{ones-le}
-use lib.Pow.{pow-pos}
+use lib.Pow.{pow-pos, pow-mono}
 use lib.ListN.{length}
 use borrow.Author.Tests.{lt-ltb, le-ltb}
 use Rattle.sets.specs.Set.{bit, In, Sub, size, with, without, minus}
 use Rattle.sets.specs.Graph.{row}
 use Rattle.sets.specs.Words.{width}
 use Rattle.sets.specs.BitLaws.{ext, bit-le, bit-and, bit-or, bit-minus, bit-high, bit-pow-other}
-use Rattle.sets.specs.SubsetLaws.{sub-refl, sub-trans, sub-number, sub-below, in-of-sub, in-below, with-same, with-other, with-below, sub-with, without-same, without-other, minus-sub}
+use Rattle.sets.specs.RangeLaws.{and-left, and-right, both, or-cases, or-left, or-right}
+use Rattle.sets.specs.SubsetLaws.{sub-refl, sub-trans, sub-number, sub-below, in-of-sub, in-below, with-sub, with-same, with-other, with-below, sub-with, without-same, without-other, minus-sub, positive-of}
 use Rattle.sets.specs.SizeLaws.{sub-size-eq, positive-size, size-one, size-mono, size-or, size-with, some-member, two-members, and-below}
 use Rattle.sets.specs.WalkLaws.{without-less}
 use Rattle.judging.specs.Graph.{missing, Valid}
 use Rattle.judging.specs.Plex.{Plex, Maximal}
 use Rattle.judging.specs.GraphLaws.{missing-with}
 use Rattle.judging.specs.PlexLaws.{maximal-by-one, one-by-maximal}
-use Rattle.search.specs.Listing.{Listed}
 use Rattle.search.specs.Found.{found, Found}
-use Rattle.search.specs.FoundLaws.{found-holds, found-test, cut-none, branches, branches-apart, found-without}
+use Rattle.search.specs.FoundLaws.{found-holds, found-test, cut-none}
 use Rattle.search.specs.Choice.{Pickable}
-use Rattle.search.specs.TrimLaws.{Kept}
-use Rattle.search.specs.Placing.{number, union, only, Adds}
+use Rattle.search.specs.Placing.{number, union, only, Apart, Adds}
 use Rattle.search.specs.PlacingLaws.{same-test, number-same, number-only, number-union, adds-none, adds-same, adds-both}
 use Rattle.search.specs.Ready.{unless}
 
@@ -49,7 +49,10 @@ pub record Covering (g : List ℕ) (c m r : ℕ) : Type 0 where
   pub covers : Sub (minus c (row g pivot)) r
   pub part : Sub r c
 
-pub record Cliquing (g : List ℕ) (q have s c m todo count : ℕ) : Type 0 where
+unfoldable pub touched : List ℕ → ℕ → ℕ → ℕ → ℕ → ℕ → Bool
+touched g q s b t x = found g 1 q s (bitOr b t) x && not (eqb (bitAnd x t) 0)
+
+pub record Sweeping (g : List ℕ) (q have s b m t count : ℕ) : Type 0 where
   pub some : 1 ≤ length g
   pub most : length g ≤ width
   pub valid : Valid g
@@ -58,10 +61,9 @@ pub record Cliquing (g : List ℕ) (q have s c m todo count : ℕ) : Type 0 wher
   pub counted : have ≡ size s
   pub clique : Plex g 1 s
   pub common : Common g s m
-  pub part : Sub c m
-  pub within : Sub todo c
-  pub hits : (x : ℕ) → Found g 1 q s c x → (u : ℕ) × In u x × In u todo
-  pub room : count + number (2 ^ length g) (found g 1 q s c) < 2 ^ 64
+  pub part : Sub (bitOr b t) m
+  pub apart : (v : ℕ) → In v t → bit b v ≡ 0
+  pub room : count + number (2 ^ length g) (touched g q s b t) < 2 ^ 64
 
 -- what placing a clique relies on
 pub record Placeable (n q have s count : ℕ) : Type 0 where
@@ -165,85 +167,202 @@ module _ (g : List ℕ) (k q s c m r : ℕ) (ok : Valid g) (lk : 1 ≤ k) (near 
               side (no ne) =
                   omega (arith, candidate w i (omega (arith, bit-le s w)), ok .mutually (cover .pivot) w lp (in-below (length g) x w lx i))
 
+-- ---- the test and the statement
+
+module _ (g : List ℕ) (q s b t : ℕ) where
+  pub touched-holds : (x : ℕ) → x < 2 ^ length g → T (touched g q s b t x) → Found g 1 q s (bitOr b t) x × (u : ℕ) × In u x × In u t
+  unfolding touched
+  touched-holds x l h =
+      let f = found-holds g 1 q s (bitOr b t) x l (and-left (found g 1 q s (bitOr b t) x) (not (eqb (bitAnd x t) 0)) h) in
+      let w = some-member (bitAnd x t) (positive-size (bitAnd x t) (nonzero (bitAnd x t) (and-right (found g 1 q s (bitOr b t) x) (not (eqb (bitAnd x t) 0)) h))) in
+      (f, w .0, omega (arith, bit-and x t (w .0), w .1, bit-le x (w .0)), omega (arith, bit-and x t (w .0), w .1, bit-le t (w .0)))
+    where
+      nonzero : (y : ℕ) → T (not (eqb y 0)) → 0 < y
+      nonzero y z = positive-of y (λ e. T-not (eqb y 0) z (subst (λ (u : ℕ). T (eqb y u)) e (eqb-refl y)))
+
+  pub touched-test : (x u : ℕ) → Found g 1 q s (bitOr b t) x → In u x → In u t → T (touched g q s b t x)
+  unfolding touched
+  touched-test x u f i j =
+      both (found g 1 q s (bitOr b t) x) (not (eqb (bitAnd x t) 0)) (found-test g 1 q s (bitOr b t) x f)
+      (not-T (eqb (bitAnd x t) 0) (λ z.
+      omega (arith, i, j, bit-and x t u, subst (λ (y : ℕ). bit y u ≡ 0) (sym (eqb→eq (bitAnd x t) 0 z)) (bit-high 0 u (pow-pos u)))))
+
+-- where what is to be found in c meets d, a part of c, it is what is touched by d
+module _ (g : List ℕ) (q s c d : ℕ) (part : Sub d c) (hits : (x : ℕ) → Found g 1 q s c x → (u : ℕ) × In u x × In u d) where
+  both-parts : bitOr (minus c d) d ≡ c
+  both-parts = ext (bitOr (minus c d) d) c (λ u. omega (arith, bit-or (minus c d) d u, bit-minus c d u, part u, bit-le c u))
+
+  pub touched-all : (x : ℕ) → x < 2 ^ length g → touched g q s (minus c d) d x ≡ found g 1 q s c x
+  touched-all x l =
+      same-test (touched g q s (minus c d) d x) (found g 1 q s c x)
+      (λ z. found-test g 1 q s c x (subst (λ (y : ℕ). Found g 1 q s y x) both-parts (touched-holds g q s (minus c d) d x l z .0)))
+      (λ z. let f = found-holds g 1 q s c x l z in let w = hits x f in
+      touched-test g q s (minus c d) d x (w .0) (subst (λ (y : ℕ). Found g 1 q s y x) (sym both-parts) f) (w .1) (w .2))
+
 -- ---- a call of the search
 
-module _ (g : List ℕ) (q have s c m todo count : ℕ) (h : Cliquing g q have s c m todo count) where
-  pub clique-candidates : c < 2 ^ length g
-  clique-candidates = sub-below (length g) c m (h .part) (h .common .below)
-
+module _ (g : List ℕ) (q have s b m t count : ℕ) (h : Sweeping g q have s b m t count) where
   pub have-fits : have ≤ width
   have-fits = omega (arith, h .counted, ones-le (length g) s (h .below), h .most)
 
   -- nothing is left to be taken
-  pub done-adds : todo ≡ 0 → (slots : List ℕ) → Adds (2 ^ length g) (found g 1 q s c) slots count slots count
+  pub done-adds : t ≡ 0 → (slots : List ℕ) → Adds (2 ^ length g) (touched g q s b t) slots count slots count
   done-adds z slots =
-      adds-none (2 ^ length g) (found g 1 q s c) slots count (cut-none g 1 q s c (λ x f.
-      let w = h .hits x f in
-      omega (arith, w .2, subst (λ (y : ℕ). bit y (w .0) ≡ 0) (sym z) (bit-high 0 (w .0) (pow-pos (w .0))))))
+      adds-none (2 ^ length g) (touched g q s b t) slots count (λ x l k.
+      let w = touched-holds g q s b t x l k in
+      omega (arith, w .3, subst (λ (y : ℕ). bit y (w .1) ≡ 0) (sym z) (bit-high 0 (w .1) (pow-pos (w .1)))))
 
-  module _ (v : ℕ) (i : In v todo) where
-    pub clique-candidate : In v c
-    clique-candidate = in-of-sub todo c v (h .within) i
+  out-of : (u : ℕ) → In u m → bit s u ≡ 0
+  out-of u i = go (ℕ-discrete (bit s u) 1)
+    where
+      go : Dec (bit s u ≡ 1) → bit s u ≡ 0
+      go (yes e) = absurd (omega (arith, h .common .beside u u i e, h .valid .loopless u (in-below (length g) m u (h .common .below) i)))
+      go (no n) = omega (arith, bit-le s u)
 
-    pub clique-vertex : v < length g
-    clique-vertex = in-below (length g) c v clique-candidates clique-candidate
+  module _ (v : ℕ) (i : In v t) where
+    near : In v m
+    near = omega (arith, h .part v, bit-or b t v, bit-le m v)
 
-    beside-all : (u : ℕ) → In u s → In v (row g u)
-    beside-all u e = h .common .beside v u (in-of-sub c m v (h .part) clique-candidate) e
-
-    out : bit s v ≡ 0
-    out = go (ℕ-discrete (bit s v) 1)
-      where
-        go : Dec (bit s v ≡ 1) → bit s v ≡ 0
-        go (yes e) = absurd (omega (arith, beside-all v e, h .valid .loopless v clique-vertex))
-        go (no n) = omega (arith, bit-le s v)
+    pub sweep-vertex : v < length g
+    sweep-vertex = in-below (length g) m v (h .common .below) near
 
     grown : Plex g 1 (with s v)
-    grown = neighbour-adds g (h .valid) 1 s v (le-refl 1) (h .below) clique-vertex (h .clique) out beside-all
+    grown = neighbour-adds g (h .valid) 1 s v (le-refl 1) (h .below) sweep-vertex (h .clique) (out-of v near) (λ u e. h .common .beside v u near e)
 
-    -- the candidates that v is adjacent to
-    module _ (r : ℕ) (e : r ≡ bitAnd c (row g v)) where
-      kept : Kept g 1 q (with s v) (without c v) r
-      kept =
-          subst (Kept g 1 q (with s v) (without c v)) (sym e)
-          (record {
-            part = λ u. inside u (ℕ-discrete v u);
-            keeps = λ x l j u iu ic. stays x l j u iu ic (ℕ-discrete v u);
-          })
+    grown-below : with s v < 2 ^ length g
+    grown-below = with-below (length g) s v (h .below) sweep-vertex
+
+    size-next : size (with s v) ≡ suc (size s)
+    size-next = size-with s v (out-of v near)
+
+    -- what v and the candidates that it is adjacent to add, and the rest
+    module _ (r b2 t2 : ℕ) (e : r ≡ bitAnd b (row g v)) (eb : b2 ≡ with b v) (et : t2 ≡ without t v) where
+      bit-b2 : (u : ℕ) → Dec (v ≡ u) → bit (bitOr b2 t2) u ≡ bit (bitOr b t) u
+      bit-b2 u (yes z) =
+          subst (λ (y : ℕ). bit (bitOr b2 t2) y ≡ bit (bitOr b t) y) z
+          (omega (arith, bit-or b2 t2 v, bit-or b t v, i, ap (λ (y : ℕ). bit y v) eb, with-same b v, bit-le t2 v, bit-le b v))
+      bit-b2 u (no nz) =
+          omega (arith, bit-or b2 t2 u, bit-or b t u, ap (λ (y : ℕ). bit y u) eb, ap (λ (y : ℕ). bit y u) et, with-other b v u nz, without-other t v u nz)
+
+      same-candidates : bitOr b2 t2 ≡ bitOr b t
+      same-candidates = ext (bitOr b2 t2) (bitOr b t) (λ u. bit-b2 u (ℕ-discrete v u))
+
+      bit-r : (u : ℕ) → In u r → In u b × In u (row g v)
+      bit-r u j =
+          let k : In u (bitAnd b (row g v)) = subst (In u) e j in
+          (omega (arith, k, bit-and b (row g v) u, bit-le b u), omega (arith, k, bit-and b (row g v) u, bit-le (row g v) u))
+
+      left-t : (u : ℕ) → In u t2 → In u t × (v ≢ u)
+      left-t u j =
+          let k : In u (without t v) = subst (In u) et j in
+          (in-of-sub (without t v) t u (minus-sub t (2 ^ v)) k, λ z. omega (arith, k, subst (λ (y : ℕ). bit (without t v) y ≡ 0) z (without-same t v)))
+
+      -- the highest member of t being v
+      taken : (x : ℕ) → Found g 1 q s (bitOr b t) x → In v x → ((u : ℕ) → In u x → In u t2 → ⊥) → Found g 1 q (with s v) r x
+      taken x f j none =
+          record { lower = with-sub s v x (f .lower) j; upper = λ u. each u (ℕ-discrete (bit x u) 1) (ℕ-discrete v u); listed = f .listed }
         where
-          inside : (u : ℕ) → Dec (v ≡ u) → bit (bitAnd c (row g v)) u ≤ bit (without c v) u
-          inside u (yes z) =
-              subst (λ (y : ℕ). bit (bitAnd c (row g v)) y ≤ bit (without c v) y) z (omega (arith, bit-and c (row g v) v, h .valid .loopless v clique-vertex))
-          inside u (no nz) = omega (arith, bit-and c (row g v) u, without-other c v u nz)
+          each : (u : ℕ) → Dec (bit x u ≡ 1) → Dec (v ≡ u) → bit x u ≤ bit (bitOr (with s v) r) u
+          each u (no n) d = omega (arith, bit-le x u)
+          each u (yes k) (yes z) = subst (λ (y : ℕ). bit x y ≤ bit (bitOr (with s v) r) y) z (omega (arith, bit-or (with s v) r v, with-same s v, bit-le x v))
+          each u (yes k) (no nz) = side (ℕ-discrete (bit s u) 1) (ℕ-discrete (bit t u) 1)
+            where
+              side : Dec (bit s u ≡ 1) → Dec (bit t u ≡ 1) → bit x u ≤ bit (bitOr (with s v) r) u
+              side (yes y) d = omega (arith, bit-or (with s v) r u, with-other s v u nz, bit-le x u)
+              side (no n) (yes y) = absurd (none u k (subst (In u) (sym et) (omega (arith, without-other t v u nz))))
+              side (no n) (no n2) =
+                  let inb : In u b = omega (arith, f .upper u, bit-or s (bitOr b t) u, bit-or b t u, bit-le s u, bit-le t u, bit-le b u) in
+                  let adj : In u (row g v) = clique-adjacent g (h .valid) x v u (f .listed .below) (f .listed .top .0) j k nz in
+                  let inr : In u r = subst (In u) (sym e) (omega (arith, bit-and b (row g v) u)) in
+                  omega (arith, bit-or (with s v) r u, inr, bit-le x u)
 
-          stays : (x : ℕ) → Listed g 1 q x → Sub (with s v) x → (u : ℕ) → In u x → In u (without c v) → Dec (v ≡ u) → In u (bitAnd c (row g v))
-          stays x l j u iu ic (yes z) = absurd (omega (arith, ic, subst (λ (y : ℕ). bit (without c v) y ≡ 0) z (without-same c v)))
-          stays x l j u iu ic (no nz) =
-              omega (
-                arith,
-                bit-and c (row g v) u,
-                in-of-sub (without c v) c u (minus-sub c (2 ^ v)) ic,
-                clique-adjacent g (h .valid) x v u (l .below) (l .top .0) (in-of-sub (with s v) x v j (with-same s v)) iu nz,
-              )
+      given : (x : ℕ) → Found g 1 q (with s v) r x → Found g 1 q s (bitOr b t) x
+      given x f =
+          record { lower = sub-trans s (with s v) x (sub-with s v) (f .lower); upper = λ u. each u (ℕ-discrete v u) (ℕ-discrete (bit r u) 1); listed = f .listed }
+        where
+          each : (u : ℕ) → Dec (v ≡ u) → Dec (bit r u ≡ 1) → bit x u ≤ bit (bitOr s (bitOr b t)) u
+          each u (yes z) d =
+              subst (λ (y : ℕ). bit x y ≤ bit (bitOr s (bitOr b t)) y) z (omega (arith, bit-or s (bitOr b t) v, bit-or b t v, i, bit-le x v))
+          each u (no nz) (yes j) = omega (arith, bit-or s (bitOr b t) u, bit-or b t u, bit-r u j, bit-le x u)
+          each u (no nz) (no nj) =
+              omega (arith, f .upper u, bit-or (with s v) r u, with-other s v u nz, bit-or s (bitOr b t) u, bit-le r u)
 
-      shared : number (2 ^ length g) (found g 1 q s (without c v)) + number (2 ^ length g) (found g 1 q (with s v) r) ≡ number (2 ^ length g) (found g 1 q s c)
+      sweep-apart : Apart (2 ^ length g) (found g 1 q (with s v) r) (touched g q s b2 t2)
+      sweep-apart x l y z =
+          let f = found-holds g 1 q (with s v) r x l y in
+          let w = touched-holds g q s b2 t2 x l z in
+          let k = left-t (w .1) (w .3) in
+          let inm : In (w .1) m = omega (arith, h .part (w .1), bit-or b t (w .1), k .0, bit-le m (w .1)) in
+          meet (w .1) (w .2) (k .0) (out-of (w .1) inm) (with-other s v (w .1) (k .1)) (f .upper (w .1)) (ℕ-discrete (bit r (w .1)) 1)
+        where
+          meet : (u : ℕ) → In u x → In u t → bit s u ≡ 0 → bit (with s v) u ≡ bit s u → bit x u ≤ bit (bitOr (with s v) r) u → Dec (bit r u ≡ 1) → ⊥
+          meet u j k o w up (yes y) = omega (arith, h .apart u k, bit-r u y)
+          meet u j k o w up (no n) = omega (arith, bit-or (with s v) r u, bit-le r u)
+
+      sweep-split : (x : ℕ) → x < 2 ^ length g → union (found g 1 q (with s v) r) (touched g q s b2 t2) x ≡ touched g q s b t x
+      sweep-split x l =
+          same-test (union (found g 1 q (with s v) r) (touched g q s b2 t2) x) (touched g q s b t x)
+          (λ y. back (or-cases (found g 1 q (with s v) r x) (touched g q s b2 t2 x) y))
+          (λ y. into (touched-holds g q s b t x l y) (decLt 0 (size (bitAnd x t2))))
+        where
+          back : T (found g 1 q (with s v) r x) ⊎ T (touched g q s b2 t2 x) → T (touched g q s b t x)
+          back (inl y) =
+              let f = found-holds g 1 q (with s v) r x l y in
+              touched-test g q s b t x v (given x f) (omega (arith, f .lower v, with-same s v, bit-le x v)) i
+          back (inr y) =
+              let w = touched-holds g q s b2 t2 x l y in
+              touched-test g q s b t x (w .1) (subst (λ (z : ℕ). Found g 1 q s z x) same-candidates (w .0)) (w .2) (left-t (w .1) (w .3) .0)
+
+          into : Found g 1 q s (bitOr b t) x × (u : ℕ) × In u x × In u t → Dec (0 < size (bitAnd x t2)) → T (union (found g 1 q (with s v) r) (touched g q s b2 t2) x)
+          into w (yes y) =
+              let z = some-member (bitAnd x t2) y in
+              or-right (found g 1 q (with s v) r x) (touched g q s b2 t2 x)
+              (touched-test g q s b2 t2 x (z .0) (subst (λ (c : ℕ). Found g 1 q s c x) (sym same-candidates) (w .0))
+              (omega (arith, bit-and x t2 (z .0), z .1, bit-le x (z .0))) (omega (arith, bit-and x t2 (z .0), z .1, bit-le t2 (z .0))))
+          into w (no n) =
+              or-left (found g 1 q (with s v) r x) (touched g q s b2 t2 x)
+              (found-test g 1 q (with s v) r x (taken x (w .0) (only-v (ℕ-discrete v (w .1))) none))
+            where
+              none : (u : ℕ) → In u x → In u t2 → ⊥
+              none u j k =
+                  omega (arith, n, size-mono (2 ^ u) (bitAnd x t2) (λ c. one c (ℕ-discrete u c)), size-one u)
+                where
+                  one : (c : ℕ) → Dec (u ≡ c) → bit (2 ^ u) c ≤ bit (bitAnd x t2) c
+                  one c (yes z) = subst (λ (y : ℕ). bit (2 ^ u) y ≤ bit (bitAnd x t2) y) z (omega (arith, bit-and x t2 u, bit-le (2 ^ u) u, j, k))
+                  one c (no nz) = omega (arith, bit-pow-other u c nz)
+
+              only-v : Dec (v ≡ w .1) → In v x
+              only-v (yes z) = subst (λ (y : ℕ). bit x y ≡ 1) (sym z) (w .2)
+              only-v (no nz) = absurd (none (w .1) (w .2) (subst (In (w .1)) (sym et) (omega (arith, without-other t v (w .1) nz, w .3))))
+
+      shared : number (2 ^ length g) (found g 1 q (with s v) r) + number (2 ^ length g) (touched g q s b2 t2) ≡ number (2 ^ length g) (touched g q s b t)
       shared =
-          sym (number-union (2 ^ length g) (found g 1 q s (without c v)) (found g 1 q (with s v) r) (branches-apart g 1 q s c v r clique-candidate out kept))
-          ∙ number-same (2 ^ length g) (union (found g 1 q s (without c v)) (found g 1 q (with s v) r)) (found g 1 q s c) (branches g 1 q s c v r clique-candidate out kept)
+          sym (number-union (2 ^ length g) (found g 1 q (with s v) r) (touched g q s b2 t2) sweep-apart)
+          ∙ number-same (2 ^ length g) (union (found g 1 q (with s v) r) (touched g q s b2 t2)) (touched g q s b t) sweep-split
 
-      pub clique-falls : r < c
-      clique-falls = omega (arith, sub-number r (without c v) (kept .part), without-less c v clique-candidate)
+      -- the candidates fall at v, and what is to be taken falls at each step
+      pub inside-falls : r < bitOr b t
+      inside-falls =
+          omega (
+            arith,
+            sub-number r (without (bitOr b t) v) (λ u. part u (ℕ-discrete v u) (ℕ-discrete (bit r u) 1)),
+            without-less (bitOr b t) v (omega (arith, bit-or b t v, i, bit-le b v)),
+          )
+        where
+          part : (u : ℕ) → Dec (v ≡ u) → Dec (bit r u ≡ 1) → bit r u ≤ bit (without (bitOr b t) v) u
+          part u d (no n) = omega (arith, bit-le r u)
+          part u (yes z) (yes j) =
+              absurd (omega (arith, subst (λ (y : ℕ). bit (row g v) y ≡ 0) z (h .valid .loopless v sweep-vertex), bit-r u j))
+          part u (no nz) (yes j) = omega (arith, without-other (bitOr b t) v u nz, bit-or b t u, bit-r u j, bit-le r u)
 
-      -- the branch without v
-      module _ (rest left : ℕ) (er : rest ≡ without c v) (el : left ≡ without todo v) where
-        pub rest-falls : rest < c
-        rest-falls = subst (λ (y : ℕ). y < c) (sym er) (without-less c v clique-candidate)
+      pub left-falls : (bitOr b2 t2 ≡ bitOr b t) × (t2 < t)
+      left-falls = (same-candidates, subst (λ (y : ℕ). y < t) (sym et) (without-less t v i))
 
-        pub rest-cliquing : Cliquing g q have s rest m left count
-        rest-cliquing =
-            subst (λ (y : ℕ). Cliquing g q have s y m left count) (sym er)
-            (subst (λ (y : ℕ). Cliquing g q have s (without c v) m y count) (sym el)
-            (record {
+      -- once v has added what it adds
+      module _ (before between : List ℕ) (n : ℕ) (x : Adds (2 ^ length g) (found g 1 q (with s v) r) before count between n) where
+        pub left-sweeping : Sweeping g q have s b2 m t2 n
+        left-sweeping =
+            record {
               some = h .some;
               most = h .most;
               valid = h .valid;
@@ -252,157 +371,164 @@ module _ (g : List ℕ) (q have s c m todo count : ℕ) (h : Cliquing g q have s
               counted = h .counted;
               clique = h .clique;
               common = h .common;
-              part = sub-trans (without c v) c m (minus-sub c (2 ^ v)) (h .part);
-              within = λ u. narrowed u (ℕ-discrete v u);
-              hits = λ x f. others x f;
-              room = omega (arith, h .room, shared);
-            }))
+              part = subst (λ (y : ℕ). Sub y m) (sym same-candidates) (h .part);
+              apart = λ u j. clear u (left-t u j);
+              room = omega (arith, h .room, shared, x .counts);
+            }
           where
-            narrowed : (u : ℕ) → Dec (v ≡ u) → bit (without todo v) u ≤ bit (without c v) u
-            narrowed u (yes z) = subst (λ (y : ℕ). bit (without todo v) y ≤ bit (without c v) y) z (omega (arith, without-same todo v))
-            narrowed u (no nz) = omega (arith, without-other todo v u nz, without-other c v u nz, h .within u)
+            clear : (u : ℕ) → In u t × (v ≢ u) → bit b2 u ≡ 0
+            clear u k = omega (arith, ap (λ (y : ℕ). bit y u) eb, with-other b v u (k .1), h .apart u (k .0))
 
-            others : (x : ℕ) → Found g 1 q s (without c v) x → (u : ℕ) × In u x × In u (without todo v)
-            others x f =
-                let w = h .hits x (found-without g 1 q s c v r clique-candidate out kept x f) in
-                let differ : v ≢ w .0 = λ z. omega (arith, subst (λ (y : ℕ). bit x y ≡ 1) (sym z) (w .1), f .upper v, bit-or s (without c v) v, without-same c v, out) in
-                (w .0, w .1, omega (arith, without-other todo v (w .0) differ, w .2))
+        pub sweep-adds : (after : List ℕ) (o : ℕ) → Adds (2 ^ length g) (touched g q s b2 t2) between n after o → Adds (2 ^ length g) (touched g q s b t) before count after o
+        sweep-adds after o y =
+            adds-same (2 ^ length g) (union (found g 1 q (with s v) r) (touched g q s b2 t2)) (touched g q s b t) before after count o sweep-split
+            (adds-both (2 ^ length g) (found g 1 q (with s v) r) (touched g q s b2 t2) before between after count n o sweep-apart x y)
 
-        module _ (before between : List ℕ) (n : ℕ) (x : Adds (2 ^ length g) (found g 1 q s rest) before count between n) where
-          others-added : Adds (2 ^ length g) (found g 1 q s (without c v)) before count between n
-          others-added = subst (λ (u : ℕ). Adds (2 ^ length g) (found g 1 q s u) before count between n) er x
+      -- too few vertices are left beside v
+      pub few-adds : have + 1 + size r < q → (slots : List ℕ) → Adds (2 ^ length g) (found g 1 q (with s v) r) slots count slots count
+      few-adds l slots =
+          adds-none (2 ^ length g) (found g 1 q (with s v) r) slots count (cut-none g 1 q (with s v) r (λ x f.
+          omega (arith, f .listed .large, size-mono x (bitOr (with s v) r) (f .upper), size-or (with s v) r, size-next, h .counted)))
 
-          pub clique-adds : (j : ℕ) → j ≡ with s v → (after : List ℕ) (o : ℕ) → Adds (2 ^ length g) (found g 1 q j r) between n after o
-              → Adds (2 ^ length g) (found g 1 q s c) before count after o
-          clique-adds j z after o y =
-              adds-same (2 ^ length g) (union (found g 1 q s (without c v)) (found g 1 q (with s v) r)) (found g 1 q s c) before after count o
-              (branches g 1 q s c v r clique-candidate out kept)
-              (adds-both (2 ^ length g) (found g 1 q s (without c v)) (found g 1 q (with s v) r) before between after count n o
-              (branches-apart g 1 q s c v r clique-candidate out kept) others-added
-              (subst (λ (u : ℕ). Adds (2 ^ length g) (found g 1 q u r) between n after o) z y))
+      -- the common neighbours of s and v
+      module _ (j w : ℕ) (z : j ≡ with s v) (ew : w ≡ bitAnd m (row g v)) where
+        next-common : Common g (with s v) (bitAnd m (row g v))
+        next-common =
+            record {
+              below = and-below (length g) m (row g v) (h .common .below);
+              beside = λ x u ix iu. close x u ix iu (ℕ-discrete v u);
+              every = λ x lx f.
+                  omega (arith, bit-and m (row g v) x, h .common .every x lx (λ u iu. f u (in-of-sub s (with s v) u (sub-with s v) iu)), f v (with-same s v));
+            }
+          where
+            close : (x u : ℕ) → In x (bitAnd m (row g v)) → In u (with s v) → Dec (v ≡ u) → In x (row g u)
+            close x u ix iu (yes y) = subst (λ (c : ℕ). In x (row g c)) y (omega (arith, bit-and m (row g v) x, bit-le (row g v) x))
+            close x u ix iu (no ny) = h .common .beside x u (omega (arith, bit-and m (row g v) x, bit-le m x)) (omega (arith, with-other s v u ny))
 
-          -- the branch with v, whose common neighbours are w
-          module _ (j w : ℕ) (z : j ≡ with s v) (ew : w ≡ bitAnd m (row g v)) where
-            next-common : Common g (with s v) (bitAnd m (row g v))
-            next-common =
-                record {
-                  below = and-below (length g) m (row g v) (h .common .below);
-                  beside = λ x2 u ix iu. near x2 u ix iu (ℕ-discrete v u);
-                  every = λ x2 lx f.
-                      omega (
-                        arith,
-                        bit-and m (row g v) x2,
-                        h .common .every x2 lx (λ u iu. f u (in-of-sub s (with s v) u (sub-with s v) iu)),
-                        f v (with-same s v),
-                      );
-                }
-              where
-                near : (x2 u : ℕ) → In x2 (bitAnd m (row g v)) → In u (with s v) → Dec (v ≡ u) → In x2 (row g u)
-                near x2 u ix iu (yes y) = subst (λ (t : ℕ). In x2 (row g t)) y (omega (arith, bit-and m (row g v) x2, bit-le (row g v) x2))
-                near x2 u ix iu (no ny) = h .common .beside x2 u (omega (arith, bit-and m (row g v) x2, bit-le m x2)) (omega (arith, with-other s v u ny))
+        pub beside-below : w < 2 ^ length g
+        beside-below = subst (λ (y : ℕ). y < 2 ^ length g) (sym ew) (next-common .below)
 
-            pub beside-below : w < 2 ^ length g
-            beside-below = subst (λ (y : ℕ). y < 2 ^ length g) (sym ew) (next-common .below)
+        next-room : count + number (2 ^ length g) (found g 1 q (with s v) r) < 2 ^ 64
+        next-room = omega (arith, h .room, shared)
 
-            size-next : size (with s v) ≡ suc (size s)
-            size-next = size-with s v out
+        module _ (d b3 a : ℕ) (ea : a ≡ have + 1) (e3 : b3 ≡ minus r d) (cover : Covering g r w d) where
+          cover-next : Covering g r (bitAnd m (row g v)) d
+          cover-next = subst (λ (y : ℕ). Covering g r y d) ew cover
 
-            next-room : n + number (2 ^ length g) (found g 1 q (with s v) r) < 2 ^ 64
-            next-room = omega (arith, h .room, shared, others-added .counts)
+          all-touched : (x : ℕ) → x < 2 ^ length g → touched g q (with s v) (minus r d) d x ≡ found g 1 q (with s v) r x
+          all-touched = touched-all g q (with s v) r d (cover .part) (pivot-hits g 1 q (with s v) r (bitAnd m (row g v)) d (h .valid) (le-refl 1) next-common cover-next)
 
-            pub next-cliquing : (a d : ℕ) → a ≡ have + 1 → Covering g r w d → Cliquing g q a j r w d n
-            next-cliquing a d ea cover =
-                subst (λ (y : ℕ). Cliquing g q a y r w d n) (sym z)
-                (subst (λ (y : ℕ). Covering g r y d → Cliquing g q a (with s v) r y d n) (sym ew) (λ cover2. record {
-                  some = h .some;
-                  most = h .most;
-                  valid = h .valid;
-                  floor = h .floor;
-                  below = with-below (length g) s v (h .below) clique-vertex;
-                  counted = omega (arith, h .counted, size-next);
-                  clique = grown;
-                  common = next-common;
-                  part = subst (λ (y : ℕ). Sub y (bitAnd m (row g v))) (sym e) (λ u. omega (arith, bit-and c (row g v) u, bit-and m (row g v) u, h .part u));
-                  within = cover2 .part;
-                  hits = pivot-hits g 1 q (with s v) r (bitAnd m (row g v)) d (h .valid) (le-refl 1) next-common cover2;
-                  room = next-room;
-                }) cover)
+          pub next-candidates : bitOr b3 d ≡ r
+          next-candidates = ap (λ (y : ℕ). bitOr y d) e3 ∙ ext (bitOr (minus r d) d) r (λ u. omega (arith, bit-or (minus r d) d u, bit-minus r d u, cover .part u, bit-le r u))
 
-            -- too few vertices are left
-            pub few-empty : have + 1 + size r < q → Adds (2 ^ length g) (found g 1 q s c) before count between n
-            few-empty l =
-                clique-adds (with s v) refl between n
-                (adds-none (2 ^ length g) (found g 1 q (with s v) r) between n (cut-none g 1 q (with s v) r (λ x2 f.
-                omega (arith, f .listed .large, size-mono x2 (bitOr (with s v) r) (f .upper), size-or (with s v) r, size-next, h .counted))))
-
-            -- no vertex is adjacent to all of s and v: it is a maximal clique
-            module _ (alone : w ≡ 0) where
-              no-candidate : r ≡ 0
-              no-candidate =
-                  ext r 0 (λ u.
-                  omega (arith, ap (λ (y : ℕ). bit y u) e, bit-and c (row g v) u, h .part u, bit-and m (row g v) u, ap (λ (y : ℕ). bit y u) ew, ap (λ (y : ℕ). bit y u) alone, bit-high 0 u (pow-pos u), bit-le (row g v) u))
-
-              top : Maximal g 1 (with s v)
-              top =
-                  maximal-by-one g 1 (with s v) grown (λ x2 lx ex p.
-                  let inside : In x2 (bitAnd m (row g v)) = next-common .every x2 lx (λ u iu. clique-adjacent g (h .valid) (with (with s v) x2) u x2
-                  (with-below (length g) (with s v) x2 (with-below (length g) s v (h .below) clique-vertex) lx) p
-                  (in-of-sub (with s v) (with (with s v) x2) u (sub-with (with s v) x2) iu) (with-same (with s v) x2)
-                  (λ y. omega (arith, iu, subst (λ (t : ℕ). bit (with s v) t ≡ 0) (sym y) ex))) in
-                  omega (arith, inside, ap (λ (y : ℕ). bit y x2) ew, ap (λ (y : ℕ). bit y x2) alone, bit-high 0 x2 (pow-pos x2)))
-
-              whole : bitOr (with s v) r ≡ with s v
-              whole =
-                  ext (bitOr (with s v) r) (with s v) (λ u.
-                  omega (arith, bit-or (with s v) r u, ap (λ (y : ℕ). bit y u) no-candidate, bit-high 0 u (pow-pos u)))
-
-              lonely : (a : ℕ) → a ≡ have + 1 → (y : ℕ) → y < 2 ^ length g → unless (ltb a q) (with s v) y ≡ found g 1 q (with s v) r y
-              lonely a ea y ly = go (decLt a q)
+          pub next-low : d < 2 ^ width
+          next-low = lt-of-lt-of-le below (pow-mono (h .most))
+            where
+              below : d < 2 ^ length g
+              below = sub-below (length g) d (bitOr b t) (λ u. low u (ℕ-discrete (bit d u) 1)) (sub-below (length g) (bitOr b t) m (h .part) (h .common .below))
                 where
-                  same : T (found g 1 q (with s v) r y) → y ≡ with s v
-                  same t =
-                      let f = found-holds g 1 q (with s v) r y ly t in
-                      sym (f .listed .top .1 (with s v) (with-below (length g) s v (h .below) clique-vertex) (subst (Sub y) whole (f .upper)) grown)
+                  low : (u : ℕ) → Dec (bit d u ≡ 1) → bit d u ≤ bit (bitOr b t) u
+                  low u (no n) = omega (arith, bit-le d u)
+                  low u (yes k) = omega (arith, bit-or b t u, bit-r u (in-of-sub d r u (cover .part) k), bit-le d u)
 
-                  go : Dec (a < q) → unless (ltb a q) (with s v) y ≡ found g 1 q (with s v) r y
-                  go (yes l) =
-                      ap (λ (b : Bool). unless b (with s v) y) (lt-ltb a q l)
-                      ∙ same-test false (found g 1 q (with s v) r y) (λ t. absurd t) (λ t.
-                      let f = found-holds g 1 q (with s v) r y ly t in
-                      omega (arith, f .listed .large, ap size (same t), size-next, h .counted))
-                  go (no nl) =
-                      ap (λ (b : Bool). unless b (with s v) y) (le-ltb a q (omega arith))
-                      ∙ same-test (eqb y (with s v)) (found g 1 q (with s v) r y)
-                      (λ t. subst (λ (u : ℕ). T (found g 1 q (with s v) r u)) (sym (eqb→eq y (with s v) t))
-                      (found-test g 1 q (with s v) r (with s v) (record {
-                        lower = sub-refl (with s v);
-                        upper = λ u. omega (arith, bit-or (with s v) r u);
-                        listed = record { below = with-below (length g) s v (h .below) clique-vertex; large = omega (arith, size-next, h .counted); top = top };
-                      })))
-                      (λ t. subst (λ (u : ℕ). T (eqb y u)) (same t) (eqb-refl y))
+          pub next-sweeping : Sweeping g q a j b3 w d count
+          next-sweeping =
+              subst (λ (y : ℕ). Sweeping g q a y b3 w d count) (sym z)
+              (subst (λ (y : ℕ). Sweeping g q a (with s v) y w d count) (sym e3)
+              (subst (λ (y : ℕ). Sweeping g q a (with s v) (minus r d) y d count) (sym ew)
+              (record {
+                some = h .some;
+                most = h .most;
+                valid = h .valid;
+                floor = h .floor;
+                below = grown-below;
+                counted = omega (arith, h .counted, size-next);
+                clique = grown;
+                common = next-common;
+                part = λ u. inner u (ℕ-discrete (bit r u) 1);
+                apart = λ u k. omega (arith, bit-minus r d u, bit-le r u);
+                room = omega (arith, next-room, number-same (2 ^ length g) (touched g q (with s v) (minus r d) d) (found g 1 q (with s v) r) all-touched);
+              })))
+            where
+              inner : (u : ℕ) → Dec (bit r u ≡ 1) → bit (bitOr (minus r d) d) u ≤ bit (bitAnd m (row g v)) u
+              inner u (yes k) =
+                  omega (arith, bit-and m (row g v) u, bit-r u k, h .part u, bit-or b t u, bit-le m u, bit-le (bitOr (minus r d) d) u)
+              inner u (no n) = omega (arith, bit-or (minus r d) d u, bit-minus r d u, cover .part u, bit-le r u)
 
-              module _ (N a : ℕ) (eN : N ≡ length g) (ea : a ≡ have + 1) where
-                pub lonely-placeable : Placeable N q a j n
-                lonely-placeable =
-                    subst (λ (y : ℕ). Placeable y q a j n) (sym eN)
-                    (subst (λ (y : ℕ). Placeable (length g) q a y n) (sym z) (record { below = with-below (length g) s v (h .below) clique-vertex; room = room }))
-                  where
-                    room : q ≤ a → n + 1 < 2 ^ 64
-                    room l =
-                        omega (
-                          arith,
-                          next-room,
-                          number-same (2 ^ length g) (unless (ltb a q) (with s v)) (found g 1 q (with s v) r) (lonely a ea),
-                          number-same (2 ^ length g) (only (with s v)) (unless (ltb a q) (with s v)) (λ y ly. ap (λ (b : Bool). unless b (with s v) y) (sym (le-ltb a q l))),
-                          number-only (2 ^ length g) (with s v) (with-below (length g) s v (h .below) clique-vertex),
-                        )
+          pub next-adds : (before after : List ℕ) (o : ℕ) → Adds (2 ^ length g) (touched g q j b3 d) before count after o → Adds (2 ^ length g) (found g 1 q (with s v) r) before count after o
+          next-adds before after o x =
+              adds-same (2 ^ length g) (touched g q (with s v) (minus r d) d) (found g 1 q (with s v) r) before after count o all-touched
+              (subst (λ (y : ℕ). Adds (2 ^ length g) (touched g q y (minus r d) d) before count after o) z
+              (subst (λ (y : ℕ). Adds (2 ^ length g) (touched g q j y d) before count after o) e3 x))
 
-                pub lonely-adds : (after : List ℕ) (o : ℕ) → Adds (2 ^ N) (unless (ltb a q) j) between n after o → Adds (2 ^ length g) (found g 1 q s c) before count after o
-                lonely-adds after o y =
-                    clique-adds (with s v) refl after o
-                    (adds-same (2 ^ length g) (unless (ltb a q) (with s v)) (found g 1 q (with s v) r) between after n o (lonely a ea)
-                    (subst (λ (u : ℕ). Adds (2 ^ u) (unless (ltb a q) (with s v)) between n after o) eN
-                    (subst (λ (u : ℕ). Adds (2 ^ N) (unless (ltb a q) u) between n after o) z y)))
+        -- no vertex is adjacent to all of s and v: it is a maximal clique
+        module _ (alone : w ≡ 0) where
+          none-beside : (u : ℕ) → bit (bitAnd m (row g v)) u ≡ 0
+          none-beside u = omega (arith, ap (λ (y : ℕ). bit y u) ew, ap (λ (y : ℕ). bit y u) alone, bit-high 0 u (pow-pos u))
+
+          whole : bitOr (with s v) r ≡ with s v
+          whole = ext (bitOr (with s v) r) (with s v) (λ u. each u (ℕ-discrete (bit r u) 1))
+            where
+              each : (u : ℕ) → Dec (bit r u ≡ 1) → bit (bitOr (with s v) r) u ≡ bit (with s v) u
+              each u (no n) = omega (arith, bit-or (with s v) r u, bit-le r u)
+              each u (yes k) =
+                  absurd (omega (arith, none-beside u, bit-and m (row g v) u, bit-r u k, h .part u, bit-or b t u, bit-le m u, bit-le t u))
+
+          top : Maximal g 1 (with s v)
+          top =
+              maximal-by-one g 1 (with s v) grown (λ x lx ex p.
+              let inside : In x (bitAnd m (row g v)) = next-common .every x lx (λ u iu. clique-adjacent g (h .valid) (with (with s v) x) u x
+              (with-below (length g) (with s v) x grown-below lx) p
+              (in-of-sub (with s v) (with (with s v) x) u (sub-with (with s v) x) iu) (with-same (with s v) x)
+              (λ y. omega (arith, iu, subst (λ (c : ℕ). bit (with s v) c ≡ 0) (sym y) ex))) in
+              omega (arith, inside, none-beside x))
+
+          lonely : (a : ℕ) → a ≡ have + 1 → (y : ℕ) → y < 2 ^ length g → unless (ltb a q) (with s v) y ≡ found g 1 q (with s v) r y
+          lonely a ea y ly = go (decLt a q)
+            where
+              same : T (found g 1 q (with s v) r y) → y ≡ with s v
+              same k =
+                  let f = found-holds g 1 q (with s v) r y ly k in
+                  sym (f .listed .top .1 (with s v) grown-below (subst (Sub y) whole (f .upper)) grown)
+
+              go : Dec (a < q) → unless (ltb a q) (with s v) y ≡ found g 1 q (with s v) r y
+              go (yes l) =
+                  ap (λ (c : Bool). unless c (with s v) y) (lt-ltb a q l)
+                  ∙ same-test false (found g 1 q (with s v) r y) (λ k. absurd k) (λ k.
+                  let f = found-holds g 1 q (with s v) r y ly k in
+                  omega (arith, f .listed .large, ap size (same k), size-next, h .counted))
+              go (no nl) =
+                  ap (λ (c : Bool). unless c (with s v) y) (le-ltb a q (omega arith))
+                  ∙ same-test (eqb y (with s v)) (found g 1 q (with s v) r y)
+                  (λ k. subst (λ (u : ℕ). T (found g 1 q (with s v) r u)) (sym (eqb→eq y (with s v) k))
+                  (found-test g 1 q (with s v) r (with s v) (record {
+                    lower = sub-refl (with s v);
+                    upper = λ u. omega (arith, bit-or (with s v) r u);
+                    listed = record { below = grown-below; large = omega (arith, size-next, h .counted); top = top };
+                  })))
+                  (λ k. subst (λ (u : ℕ). T (eqb y u)) (same k) (eqb-refl y))
+
+          module _ (M a : ℕ) (eM : M ≡ length g) (ea : a ≡ have + 1) where
+            pub lonely-placeable : Placeable M q a j count
+            lonely-placeable =
+                subst (λ (y : ℕ). Placeable y q a j count) (sym eM)
+                (subst (λ (y : ℕ). Placeable (length g) q a y count) (sym z) (record { below = grown-below; room = room }))
+              where
+                room : q ≤ a → count + 1 < 2 ^ 64
+                room l =
+                    omega (
+                      arith,
+                      next-room,
+                      number-same (2 ^ length g) (unless (ltb a q) (with s v)) (found g 1 q (with s v) r) (lonely a ea),
+                      number-same (2 ^ length g) (only (with s v)) (unless (ltb a q) (with s v)) (λ y ly. ap (λ (c : Bool). unless c (with s v) y) (sym (le-ltb a q l))),
+                      number-only (2 ^ length g) (with s v) grown-below,
+                    )
+
+            pub lonely-adds : (before after : List ℕ) (o : ℕ) → Adds (2 ^ M) (unless (ltb a q) j) before count after o → Adds (2 ^ length g) (found g 1 q (with s v) r) before count after o
+            lonely-adds before after o y =
+                adds-same (2 ^ length g) (unless (ltb a q) (with s v)) (found g 1 q (with s v) r) before after count o (lonely a ea)
+                (subst (λ (u : ℕ). Adds (2 ^ u) (unless (ltb a q) (with s v)) before count after o) eM
+                (subst (λ (u : ℕ). Adds (2 ^ M) (unless (ltb a q) u) before count after o) z y))
 
 -- ---- the top
 

@@ -9,14 +9,15 @@ use native.Mathlib.Decide.{ℕ-discrete}
 use mathlib.Core.Path.{_≡_, sym, ap, _∙_, subst}
 use mathlib.Core.Bool.{Bool, cond}
 use mathlib.Core.List.{List, [], _∷_, _++_}
+use lib.Bits.{bitOr}
 use lib.Count.{ones-le}
 use lib.Pow.{pow-pos, pow-mono, ones-lt}
 use lib.ListN.{length, drop, replicate}
 use borrow.Author.Tests.{le-leb, lt-leb, lt-ltb, le-ltb}
-use Rattle.sets.specs.Set.{bit, In, Sub, size, with, full}
+use Rattle.sets.specs.Set.{minus, bit, In, Sub, size, with, full}
 use Rattle.sets.specs.Words.{width, masks}
 use Rattle.sets.specs.Words.Operations.{count-masks}
-use Rattle.sets.specs.BitLaws.{bit-or, bit-high}
+use Rattle.sets.specs.BitLaws.{bit-le, bit-or, bit-minus, bit-high}
 use Rattle.sets.specs.WordLaws.{bit-full}
 use Rattle.sets.specs.SubsetLaws.{positive, sub-of-in, in-below, with-other}
 use Rattle.judging.specs.Graph.{missing, Valid}
@@ -36,7 +37,7 @@ use Rattle.search.specs.FoundLaws.{found-holds, found-test}
 use Rattle.search.specs.NearRows.{Pairing}
 use Rattle.search.specs.Ready.{Ready}
 use Rattle.search.specs.Choice.{Pickable}
-use Rattle.search.specs.Cliques.{Common, Covering, Cliquing, pivot-hits, start-common}
+use Rattle.search.specs.Cliques.{Common, Covering, touched, Sweeping, pivot-hits, touched-all, start-common}
 use Rattle.search.specs.Calls.{slotsCause, listReply, placed, slotsAfter, afterCheck}
 
 pub record Candidates (g : List ℕ) (k q c : ℕ) : Type 0 where
@@ -212,20 +213,32 @@ module _ (g : List ℕ) (q c m : ℕ) (a : Accepted g 1 q) (d : Candidates g 1 q
   in-every : (v : ℕ) → v < length g → In v m
   in-every v l = subst (In v) (sym e) (bit-full (length g) v l)
 
-  pub start-cliquing : (s todo : ℕ) → s ≡ 0 → Covering g c m todo → Cliquing g q 0 s c m todo 0
-  start-cliquing s todo z cover =
-      let near : Common g s m = start-common g s m z (start-pickable .below) in-every in
-      record {
-        some = a .sized .some;
-        most = a .sized .most;
-        valid = a .valid;
-        floor = a .floor .1;
-        below = start-compatible g 1 q s c z a d .below;
-        counted = omega (arith, ap size z, ones-le 0 0 (pow-pos 0));
-        clique = start-compatible g 1 q s c z a d .plexed;
-        common = near;
-        part = sub-of-in c m (λ v i. in-every v (in-below (length g) c v (d .below) i));
-        within = cover .part;
-        hits = pivot-hits g 1 q s c m todo (a .valid) (le-refl 1) near cover;
-        room = start-room g 1 q s c z a d;
-      }
+  module _ (s b todo : ℕ) (z : s ≡ 0) (f : b ≡ minus c todo) (cover : Covering g c m todo) where
+    start-near : Common g s m
+    start-near = start-common g s m z (start-pickable .below) in-every
+
+    all-touched : (x : ℕ) → x < 2 ^ length g → touched g q s (minus c todo) todo x ≡ found g 1 q s c x
+    all-touched = touched-all g q s c todo (cover .part) (pivot-hits g 1 q s c m todo (a .valid) (le-refl 1) start-near cover)
+
+    pub start-sweeping : Sweeping g q 0 s b m todo 0
+    start-sweeping =
+        subst (λ (y : ℕ). Sweeping g q 0 s y m todo 0) (sym f)
+        (record {
+          some = a .sized .some;
+          most = a .sized .most;
+          valid = a .valid;
+          floor = a .floor .1;
+          below = start-compatible g 1 q s c z a d .below;
+          counted = omega (arith, ap size z, ones-le 0 0 (pow-pos 0));
+          clique = start-compatible g 1 q s c z a d .plexed;
+          common = start-near;
+          part = sub-of-in (bitOr (minus c todo) todo) m (λ v i. in-every v (in-below (length g) c v (d .below) (omega (arith, i, bit-or (minus c todo) todo v, bit-minus c todo v, cover .part v, bit-le c v))));
+          apart = λ v i. omega (arith, bit-minus c todo v, bit-le c v);
+          room = omega (arith, start-room g 1 q s c z a d, number-same (2 ^ length g) (touched g q s (minus c todo) todo) (found g 1 q s c) all-touched);
+        })
+
+    pub start-swept : (before after : List ℕ) (n : ℕ) → Adds (2 ^ length g) (touched g q s b todo) before 0 after n → Adds (2 ^ length g) (listed g 1 q) before 0 after n
+    start-swept before after n x =
+        start-adds g 1 q s c z d before after n
+        (adds-same (2 ^ length g) (touched g q s (minus c todo) todo) (found g 1 q s c) before after 0 n all-touched
+        (subst (λ (y : ℕ). Adds (2 ^ length g) (touched g q s y todo) before 0 after n) f x))

@@ -3,10 +3,9 @@ ghost use Prim.Native.Nat.{_+_, _^_, _<_};
 ghost use lib.Dec.{ltb};
 ghost use lib.ListN.{length};
 ghost use Rattle.sets.specs.Words.{mask, masks};
-ghost use Rattle.search.specs.Found.{found};
 ghost use Rattle.search.specs.Placing.{Adds};
 ghost use Rattle.search.specs.Ready.{unless};
-ghost use Rattle.search.specs.Cliques.{Covering, Placeable, Cliquing};
+ghost use Rattle.search.specs.Cliques.{Covering, Placeable, Sweeping, touched};
 ghost use Rattle.search.specs.Choice.{Pickable};
 use sets::Set;
 
@@ -62,53 +61,55 @@ pub fn place_clique(
     crate::place::insert(slots, count, s)
 }
 
-// Places every listed clique that holds s and has no member outside s and c, and gives the new count. The common neighbours of s are m, it has `have`
-// members, and every such clique holds a vertex of `todo`.
-pub fn cliques(
+// Places every listed clique that holds s, has a vertex of `todo` and none outside s, `base` and `todo`, and gives the new count. The common neighbours
+// of s are m, and it has `have` members. A vertex that was taken joins `base`, so the cliques come by their highest vertex of `todo`.
+pub fn sweep(
     rows: &[u64],
     q: usize,
     wide: usize,
     have: usize,
     s: Set,
-    c: Set,
+    base: Set,
     m: Set,
     todo: Set,
     slots: &mut [u64],
     count: usize,
 ) -> usize
-    requires { ⌜ Cliquing (masks (now rows)) q have (mask s) (mask c) (mask m) (mask todo) count ⌝ }
-    ensures { λ r. ⌜ Adds (2 ^ length (masks (now (rows .entry)))) (found (masks (now (rows .entry))) 1 q (mask s) (mask c))
+    requires { ⌜ Sweeping (masks (now rows)) q have (mask s) (mask base) (mask m) (mask todo) count ⌝ }
+    ensures { λ r. ⌜ Adds (2 ^ length (masks (now (rows .entry)))) (touched (masks (now (rows .entry))) q (mask s) (mask base) (mask todo))
         (masks (now (slots .entry))) count (masks (now (slots .exit))) r ⌝ }
 {
     if sets::is_empty(todo) {
         return count;
     }
-    let v = sets::highest(todo);
+    let v = sets::lowest(todo);
+    let left = sets::rest(todo, v);
+    let wider = sets::with(base, v);
     let row = sets::get(rows, v);
-    let rest = sets::without(c, v);
-    let left = sets::without(todo, v);
-    let others = cliques(rows, q, wide, have, s, rest, m, left, slots, count);
     let joined = sets::with(s, v);
     let more = have + 1;
     let beside = sets::meet(m, row);
     if sets::is_empty(beside) {
-        return place_clique(q, more, joined, sets::count(rows), slots, others);
+        let placed = place_clique(q, more, joined, sets::count(rows), slots, count);
+        return sweep(rows, q, wide, have, s, wider, m, left, slots, placed);
     }
-    let inside = sets::meet(c, row);
+    let inside = sets::meet(base, row);
     if more + sets::size(inside) < q {
-        return others;
+        return sweep(rows, q, wide, have, s, wider, m, left, slots, count);
     }
     let next = agenda(rows, inside, beside, wide);
-    cliques(
+    let others = sets::minus(inside, next);
+    let taken = sweep(
         rows,
         q,
         wide,
         more,
         joined,
-        inside,
+        others,
         beside,
         next,
         slots,
-        others,
-    )
+        count,
+    );
+    sweep(rows, q, wide, have, s, wider, m, left, slots, taken)
 }

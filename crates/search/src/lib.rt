@@ -70,7 +70,8 @@ fn enumerate_cliques(rows: &[u64], q: usize, wide: usize, all: Set, slots: &mut 
 {
     let every = sets::full(sets::count(rows));
     let todo = cliques::agenda(rows, all, every, wide);
-    cliques::cliques(rows, q, wide, 0, sets::empty(), all, every, todo, slots, 0)
+    let base = sets::minus(all, todo);
+    cliques::sweep(rows, q, wide, 0, sets::empty(), base, every, todo, slots, 0)
 }
 
 // Places every maximal k-plex of at least q members while the slots have room, and counts them all.
