@@ -3,20 +3,20 @@
 --   Common g s m         m are the vertices that are adjacent to every member of s
 --   Covering g c m r     r are candidates of c, among them all that some vertex of m, the pivot, is not adjacent to
 --   touched g q s b t x  x is listed, holds s, has no member outside s, b and t, and has one in t
---   Sweeping ..          what a call of the search relies on: s is a clique of `have` members, m its common neighbours, and b and t are apart
+--   Sweeping, Taking     what the calls of the search rely on: s is a clique of `have` members, m its common neighbours, and b and t are apart
 --                        and candidates among them
-use Prim.Native.Nat.{ℕ, suc, _+_, _^_, _≤_, _<_}
+use Prim.Native.Nat.{ℕ, _+_, _^_, _≤_, _<_}
 use native.Mathlib.Omega.{arith}
-use native.Mathlib.Nat.{le-refl, lt-of-lt-of-le}
+use native.Mathlib.Nat.{le-refl}
 use native.Mathlib.Decide.{ℕ-discrete, decLt}
-use mathlib.Core.Path.{_≡_, sym, ap, _∙_, subst}
+use mathlib.Core.Path.{_≡_, refl, sym, ap, _∙_, subst}
 use mathlib.Core.Logic.{_≢_, _⊎_, inl, inr}
 use mathlib.Core.Bool.{Bool, false, not, _&&_}
 use mathlib.Core.List.{List}
 use lib.Bits.{bitAnd, bitOr}
 use lib.Dec.{T, eqb, ltb, eqb→eq, eqb-refl, T-not, not-T}
 use lib.Count.{ones-le}
-use lib.Pow.{pow-pos, pow-mono}
+use lib.Pow.{pow-pos}
 use lib.ListN.{length}
 use borrow.Author.Tests.{lt-ltb, le-ltb}
 use Rattle.sets.specs.Set.{bit, In, Sub, size, with, without, minus}
@@ -24,7 +24,7 @@ use Rattle.sets.specs.Graph.{row}
 use Rattle.sets.specs.Words.{width}
 use Rattle.sets.specs.BitLaws.{ext, bit-le, bit-and, bit-or, bit-minus, bit-high, bit-pow-other}
 use Rattle.sets.specs.RangeLaws.{and-left, and-right, both, or-cases, or-left, or-right}
-use Rattle.sets.specs.SubsetLaws.{sub-refl, sub-trans, sub-number, sub-below, in-of-sub, in-below, with-sub, with-same, with-other, with-below, sub-with, without-same, without-other, minus-sub, positive-of}
+use Rattle.sets.specs.SubsetLaws.{sub-refl, sub-trans, sub-number, in-of-sub, in-below, with-sub, with-same, with-other, with-below, sub-with, without-same, without-other, minus-sub, positive-of}
 use Rattle.sets.specs.SizeLaws.{sub-size-eq, positive-size, size-one, size-mono, size-or, size-with, some-member, two-members, and-below}
 use Rattle.sets.specs.WalkLaws.{without-less}
 use Rattle.judging.specs.Graph.{missing, Valid}
@@ -64,6 +64,19 @@ pub record Sweeping (g : List ℕ) (q have s b m t count : ℕ) : Type 0 where
   pub part : Sub (bitOr b t) m
   pub apart : (v : ℕ) → In v t → bit b v ≡ 0
   pub room : count + number (2 ^ length g) (touched g q s b t) < 2 ^ 64
+
+-- the same once a clique s has grown, with candidates c among its common neighbours m
+pub record Taking (g : List ℕ) (q have s c m count : ℕ) : Type 0 where
+  pub some : 1 ≤ length g
+  pub most : length g ≤ width
+  pub valid : Valid g
+  pub floor : q ≤ width
+  pub below : s < 2 ^ length g
+  pub counted : have ≡ size s
+  pub clique : Plex g 1 s
+  pub common : Common g s m
+  pub part : Sub c m
+  pub room : count + number (2 ^ length g) (found g 1 q s c) < 2 ^ 64
 
 -- what placing a clique relies on
 pub record Placeable (n q have s count : ℕ) : Type 0 where
@@ -199,11 +212,11 @@ module _ (g : List ℕ) (q s c d : ℕ) (part : Sub d c) (hits : (x : ℕ) → F
       (λ z. let f = found-holds g 1 q s c x l z in let w = hits x f in
       touched-test g q s (minus c d) d x (w .0) (subst (λ (y : ℕ). Found g 1 q s y x) (sym both-parts) f) (w .1) (w .2))
 
--- ---- a call of the search
+-- ---- a sweep
 
 module _ (g : List ℕ) (q have s b m t count : ℕ) (h : Sweeping g q have s b m t count) where
-  pub have-fits : have ≤ width
-  have-fits = omega (arith, h .counted, ones-le (length g) s (h .below), h .most)
+  pub sweep-fits : have ≤ width
+  sweep-fits = omega (arith, h .counted, ones-le (length g) s (h .below), h .most)
 
   -- nothing is left to be taken
   pub done-adds : t ≡ 0 → (slots : List ℕ) → Adds (2 ^ length g) (touched g q s b t) slots count slots count
@@ -228,12 +241,6 @@ module _ (g : List ℕ) (q have s b m t count : ℕ) (h : Sweeping g q have s b 
 
     grown : Plex g 1 (with s v)
     grown = neighbour-adds g (h .valid) 1 s v (le-refl 1) (h .below) sweep-vertex (h .clique) (out-of v near) (λ u e. h .common .beside v u near e)
-
-    grown-below : with s v < 2 ^ length g
-    grown-below = with-below (length g) s v (h .below) sweep-vertex
-
-    size-next : size (with s v) ≡ suc (size s)
-    size-next = size-with s v (out-of v near)
 
     -- what v and the candidates that it is adjacent to add, and the rest
     module _ (r b2 t2 : ℕ) (e : r ≡ bitAnd b (row g v)) (eb : b2 ≡ with b v) (et : t2 ≡ without t v) where
@@ -358,8 +365,46 @@ module _ (g : List ℕ) (q have s b m t count : ℕ) (h : Sweeping g q have s b 
       pub left-falls : (bitOr b2 t2 ≡ bitOr b t) × (t2 < t)
       left-falls = (same-candidates, subst (λ (y : ℕ). y < t) (sym et) (without-less t v i))
 
-      -- once v has added what it adds
-      module _ (before between : List ℕ) (n : ℕ) (x : Adds (2 ^ length g) (found g 1 q (with s v) r) before count between n) where
+      -- what v has to add
+      next-common : Common g (with s v) (bitAnd m (row g v))
+      next-common =
+          record {
+            below = and-below (length g) m (row g v) (h .common .below);
+            beside = λ x u ix iu. close x u ix iu (ℕ-discrete v u);
+            every = λ x lx f.
+                omega (arith, bit-and m (row g v) x, h .common .every x lx (λ u iu. f u (in-of-sub s (with s v) u (sub-with s v) iu)), f v (with-same s v));
+          }
+        where
+          close : (x u : ℕ) → In x (bitAnd m (row g v)) → In u (with s v) → Dec (v ≡ u) → In x (row g u)
+          close x u ix iu (yes y) = subst (λ (c : ℕ). In x (row g c)) y (omega (arith, bit-and m (row g v) x, bit-le (row g v) x))
+          close x u ix iu (no ny) = h .common .beside x u (omega (arith, bit-and m (row g v) x, bit-le m x)) (omega (arith, with-other s v u ny))
+
+      pub sweep-taking : (a j w : ℕ) → a ≡ have + 1 → j ≡ with s v → w ≡ bitAnd m (row g v) → Taking g q a j r w count
+      sweep-taking a j w ea z ew =
+          subst (λ (y : ℕ). Taking g q a y r w count) (sym z)
+          (subst (λ (y : ℕ). Taking g q a (with s v) r y count) (sym ew)
+          (record {
+            some = h .some;
+            most = h .most;
+            valid = h .valid;
+            floor = h .floor;
+            below = with-below (length g) s v (h .below) sweep-vertex;
+            counted = omega (arith, h .counted, size-with s v (out-of v near));
+            clique = grown;
+            common = next-common;
+            part = λ u. inner u (ℕ-discrete (bit r u) 1);
+            room = omega (arith, h .room, shared);
+          }))
+        where
+          inner : (u : ℕ) → Dec (bit r u ≡ 1) → bit r u ≤ bit (bitAnd m (row g v)) u
+          inner u (yes k) = omega (arith, bit-and m (row g v) u, bit-r u k, h .part u, bit-or b t u, bit-le m u, bit-le r u)
+          inner u (no n) = omega (arith, bit-le r u)
+
+      -- once v has added it
+      module _ (j : ℕ) (z : j ≡ with s v) (before between : List ℕ) (n : ℕ) (x : Adds (2 ^ length g) (found g 1 q j r) before count between n) where
+        grown-adds : Adds (2 ^ length g) (found g 1 q (with s v) r) before count between n
+        grown-adds = subst (λ (y : ℕ). Adds (2 ^ length g) (found g 1 q y r) before count between n) z x
+
         pub left-sweeping : Sweeping g q have s b2 m t2 n
         left-sweeping =
             record {
@@ -373,7 +418,7 @@ module _ (g : List ℕ) (q have s b m t count : ℕ) (h : Sweeping g q have s b 
               common = h .common;
               part = subst (λ (y : ℕ). Sub y m) (sym same-candidates) (h .part);
               apart = λ u j. clear u (left-t u j);
-              room = omega (arith, h .room, shared, x .counts);
+              room = omega (arith, h .room, shared, grown-adds .counts);
             }
           where
             clear : (u : ℕ) → In u t × (v ≢ u) → bit b2 u ≡ 0
@@ -382,153 +427,140 @@ module _ (g : List ℕ) (q have s b m t count : ℕ) (h : Sweeping g q have s b 
         pub sweep-adds : (after : List ℕ) (o : ℕ) → Adds (2 ^ length g) (touched g q s b2 t2) between n after o → Adds (2 ^ length g) (touched g q s b t) before count after o
         sweep-adds after o y =
             adds-same (2 ^ length g) (union (found g 1 q (with s v) r) (touched g q s b2 t2)) (touched g q s b t) before after count o sweep-split
-            (adds-both (2 ^ length g) (found g 1 q (with s v) r) (touched g q s b2 t2) before between after count n o sweep-apart x y)
+            (adds-both (2 ^ length g) (found g 1 q (with s v) r) (touched g q s b2 t2) before between after count n o sweep-apart grown-adds y)
 
-      -- too few vertices are left beside v
-      pub few-adds : have + 1 + size r < q → (slots : List ℕ) → Adds (2 ^ length g) (found g 1 q (with s v) r) slots count slots count
-      few-adds l slots =
-          adds-none (2 ^ length g) (found g 1 q (with s v) r) slots count (cut-none g 1 q (with s v) r (λ x f.
-          omega (arith, f .listed .large, size-mono x (bitOr (with s v) r) (f .upper), size-or (with s v) r, size-next, h .counted)))
+-- ---- a sweep on its way: b and t have become b2 and t2, and the slots after
 
-      -- the common neighbours of s and v
-      module _ (j w : ℕ) (z : j ≡ with s v) (ew : w ≡ bitAnd m (row g v)) where
-        next-common : Common g (with s v) (bitAnd m (row g v))
-        next-common =
-            record {
-              below = and-below (length g) m (row g v) (h .common .below);
-              beside = λ x u ix iu. close x u ix iu (ℕ-discrete v u);
-              every = λ x lx f.
-                  omega (arith, bit-and m (row g v) x, h .common .every x lx (λ u iu. f u (in-of-sub s (with s v) u (sub-with s v) iu)), f v (with-same s v));
-            }
-          where
-            close : (x u : ℕ) → In x (bitAnd m (row g v)) → In u (with s v) → Dec (v ≡ u) → In x (row g u)
-            close x u ix iu (yes y) = subst (λ (c : ℕ). In x (row g c)) y (omega (arith, bit-and m (row g v) x, bit-le (row g v) x))
-            close x u ix iu (no ny) = h .common .beside x u (omega (arith, bit-and m (row g v) x, bit-le m x)) (omega (arith, with-other s v u ny))
+pub record Swept (g : List ℕ) (q have s b m t : ℕ) (before : List ℕ) (count b2 t2 : ℕ) (after : List ℕ) (n : ℕ) : Type 0 where
+  pub sweeping : Sweeping g q have s b2 m t2 n
+  pub same : bitOr b2 t2 ≡ bitOr b t
+  pub onward : (last : List ℕ) (o : ℕ) → Adds (2 ^ length g) (touched g q s b2 t2) after n last o → Adds (2 ^ length g) (touched g q s b t) before count last o
 
-        pub beside-below : w < 2 ^ length g
-        beside-below = subst (λ (y : ℕ). y < 2 ^ length g) (sym ew) (next-common .below)
+pub swept-none : (g : List ℕ) (q have s b m t : ℕ) (slots : List ℕ) (count : ℕ) → Sweeping g q have s b m t count → Swept g q have s b m t slots count b t slots count
+swept-none g q have s b m t slots count h = record { sweeping = h; same = refl; onward = λ last o x. x }
 
-        next-room : count + number (2 ^ length g) (found g 1 q (with s v) r) < 2 ^ 64
-        next-room = omega (arith, h .room, shared)
+module _ (g : List ℕ) (q have s b m t : ℕ) (before : List ℕ) (count b2 t2 : ℕ) (after : List ℕ) (n : ℕ) (w : Swept g q have s b m t before count b2 t2 after n) (v : ℕ) (i : In v t2)
+    (r b3 t3 : ℕ) (e : r ≡ bitAnd b2 (row g v)) (eb : b3 ≡ with b2 v) (et : t3 ≡ without t2 v) where
+  pub swept-falls : r < bitOr b t
+  swept-falls = omega (arith, w .same, inside-falls g q have s b2 m t2 n (w .sweeping) v i r b3 t3 e eb et)
 
-        module _ (d b3 a : ℕ) (ea : a ≡ have + 1) (e3 : b3 ≡ minus r d) (cover : Covering g r w d) where
-          cover-next : Covering g r (bitAnd m (row g v)) d
-          cover-next = subst (λ (y : ℕ). Covering g r y d) ew cover
+  pub swept-taking : (a j x : ℕ) → a ≡ have + 1 → j ≡ with s v → x ≡ bitAnd m (row g v) → Taking g q a j r x n
+  swept-taking = sweep-taking g q have s b2 m t2 n (w .sweeping) v i r b3 t3 e eb et
 
-          all-touched : (x : ℕ) → x < 2 ^ length g → touched g q (with s v) (minus r d) d x ≡ found g 1 q (with s v) r x
-          all-touched = touched-all g q (with s v) r d (cover .part) (pivot-hits g 1 q (with s v) r (bitAnd m (row g v)) d (h .valid) (le-refl 1) next-common cover-next)
+  pub swept-more : (j : ℕ) → j ≡ with s v → (last : List ℕ) (o : ℕ) → Adds (2 ^ length g) (found g 1 q j r) after n last o → Swept g q have s b m t before count b3 t3 last o
+  swept-more j z last o x =
+      record {
+        sweeping = left-sweeping g q have s b2 m t2 n (w .sweeping) v i r b3 t3 e eb et j z after last o x;
+        same = left-falls g q have s b2 m t2 n (w .sweeping) v i r b3 t3 e eb et .0 ∙ w .same;
+        onward = λ end p y. w .onward end p (sweep-adds g q have s b2 m t2 n (w .sweeping) v i r b3 t3 e eb et j z after last o x end p y);
+      }
 
-          pub next-candidates : bitOr b3 d ≡ r
-          next-candidates = ap (λ (y : ℕ). bitOr y d) e3 ∙ ext (bitOr (minus r d) d) r (λ u. omega (arith, bit-or (minus r d) d u, bit-minus r d u, cover .part u, bit-le r u))
+pub swept-all : (g : List ℕ) (q have s b m t : ℕ) (before : List ℕ) (count b2 t2 : ℕ) (after : List ℕ) (n : ℕ) → Swept g q have s b m t before count b2 t2 after n → t2 ≡ 0
+    → Adds (2 ^ length g) (touched g q s b t) before count after n
+swept-all g q have s b m t before count b2 t2 after n w z = w .onward after n (done-adds g q have s b2 m t2 n (w .sweeping) z after)
 
-          pub next-low : d < 2 ^ width
-          next-low = lt-of-lt-of-le below (pow-mono (h .most))
-            where
-              below : d < 2 ^ length g
-              below = sub-below (length g) d (bitOr b t) (λ u. low u (ℕ-discrete (bit d u) 1)) (sub-below (length g) (bitOr b t) m (h .part) (h .common .below))
-                where
-                  low : (u : ℕ) → Dec (bit d u ≡ 1) → bit d u ≤ bit (bitOr b t) u
-                  low u (no n) = omega (arith, bit-le d u)
-                  low u (yes k) = omega (arith, bit-or b t u, bit-r u (in-of-sub d r u (cover .part) k), bit-le d u)
+-- ---- what a grown clique adds
 
-          pub next-sweeping : Sweeping g q a j b3 w d count
-          next-sweeping =
-              subst (λ (y : ℕ). Sweeping g q a y b3 w d count) (sym z)
-              (subst (λ (y : ℕ). Sweeping g q a (with s v) y w d count) (sym e3)
-              (subst (λ (y : ℕ). Sweeping g q a (with s v) (minus r d) y d count) (sym ew)
-              (record {
-                some = h .some;
-                most = h .most;
-                valid = h .valid;
-                floor = h .floor;
-                below = grown-below;
-                counted = omega (arith, h .counted, size-next);
-                clique = grown;
-                common = next-common;
-                part = λ u. inner u (ℕ-discrete (bit r u) 1);
-                apart = λ u k. omega (arith, bit-minus r d u, bit-le r u);
-                room = omega (arith, next-room, number-same (2 ^ length g) (touched g q (with s v) (minus r d) d) (found g 1 q (with s v) r) all-touched);
-              })))
-            where
-              inner : (u : ℕ) → Dec (bit r u ≡ 1) → bit (bitOr (minus r d) d) u ≤ bit (bitAnd m (row g v)) u
-              inner u (yes k) =
-                  omega (arith, bit-and m (row g v) u, bit-r u k, h .part u, bit-or b t u, bit-le m u, bit-le (bitOr (minus r d) d) u)
-              inner u (no n) = omega (arith, bit-or (minus r d) d u, bit-minus r d u, cover .part u, bit-le r u)
+module _ (g : List ℕ) (q have s c m count : ℕ) (h : Taking g q have s c m count) where
+  pub take-fits : have ≤ width
+  take-fits = omega (arith, h .counted, ones-le (length g) s (h .below), h .most)
 
-          pub next-adds : (before after : List ℕ) (o : ℕ) → Adds (2 ^ length g) (touched g q j b3 d) before count after o → Adds (2 ^ length g) (found g 1 q (with s v) r) before count after o
-          next-adds before after o x =
-              adds-same (2 ^ length g) (touched g q (with s v) (minus r d) d) (found g 1 q (with s v) r) before after count o all-touched
-              (subst (λ (y : ℕ). Adds (2 ^ length g) (touched g q y (minus r d) d) before count after o) z
-              (subst (λ (y : ℕ). Adds (2 ^ length g) (touched g q j y d) before count after o) e3 x))
+  -- too few vertices are left
+  pub few-adds : have + size c < q → (slots : List ℕ) → Adds (2 ^ length g) (found g 1 q s c) slots count slots count
+  few-adds l slots =
+      adds-none (2 ^ length g) (found g 1 q s c) slots count (cut-none g 1 q s c (λ x f.
+      omega (arith, f .listed .large, size-mono x (bitOr s c) (f .upper), size-or s c, h .counted)))
 
-        -- no vertex is adjacent to all of s and v: it is a maximal clique
-        module _ (alone : w ≡ 0) where
-          none-beside : (u : ℕ) → bit (bitAnd m (row g v)) u ≡ 0
-          none-beside u = omega (arith, ap (λ (y : ℕ). bit y u) ew, ap (λ (y : ℕ). bit y u) alone, bit-high 0 u (pow-pos u))
+  -- the candidates d are to be taken, and the others of c wait
+  module _ (d b : ℕ) (e : b ≡ minus c d) (cover : Covering g c m d) where
+    all-touched : (x : ℕ) → x < 2 ^ length g → touched g q s (minus c d) d x ≡ found g 1 q s c x
+    all-touched = touched-all g q s c d (cover .part) (pivot-hits g 1 q s c m d (h .valid) (le-refl 1) (h .common) cover)
 
-          whole : bitOr (with s v) r ≡ with s v
-          whole = ext (bitOr (with s v) r) (with s v) (λ u. each u (ℕ-discrete (bit r u) 1))
-            where
-              each : (u : ℕ) → Dec (bit r u ≡ 1) → bit (bitOr (with s v) r) u ≡ bit (with s v) u
-              each u (no n) = omega (arith, bit-or (with s v) r u, bit-le r u)
-              each u (yes k) =
-                  absurd (omega (arith, none-beside u, bit-and m (row g v) u, bit-r u k, h .part u, bit-or b t u, bit-le m u, bit-le t u))
+    pub next-candidates : bitOr b d ≡ c
+    next-candidates = ap (λ (y : ℕ). bitOr y d) e ∙ ext (bitOr (minus c d) d) c (λ u. omega (arith, bit-or (minus c d) d u, bit-minus c d u, cover .part u, bit-le c u))
 
-          top : Maximal g 1 (with s v)
-          top =
-              maximal-by-one g 1 (with s v) grown (λ x lx ex p.
-              let inside : In x (bitAnd m (row g v)) = next-common .every x lx (λ u iu. clique-adjacent g (h .valid) (with (with s v) x) u x
-              (with-below (length g) (with s v) x grown-below lx) p
-              (in-of-sub (with s v) (with (with s v) x) u (sub-with (with s v) x) iu) (with-same (with s v) x)
-              (λ y. omega (arith, iu, subst (λ (c : ℕ). bit (with s v) c ≡ 0) (sym y) ex))) in
-              omega (arith, inside, none-beside x))
+    pub next-sweeping : Sweeping g q have s b m d count
+    next-sweeping =
+        subst (λ (y : ℕ). Sweeping g q have s y m d count) (sym e)
+        (record {
+          some = h .some;
+          most = h .most;
+          valid = h .valid;
+          floor = h .floor;
+          below = h .below;
+          counted = h .counted;
+          clique = h .clique;
+          common = h .common;
+          part = λ u. omega (arith, bit-or (minus c d) d u, bit-minus c d u, cover .part u, h .part u);
+          apart = λ u k. omega (arith, bit-minus c d u, bit-le c u);
+          room = omega (arith, h .room, number-same (2 ^ length g) (touched g q s (minus c d) d) (found g 1 q s c) all-touched);
+        })
 
-          lonely : (a : ℕ) → a ≡ have + 1 → (y : ℕ) → y < 2 ^ length g → unless (ltb a q) (with s v) y ≡ found g 1 q (with s v) r y
-          lonely a ea y ly = go (decLt a q)
-            where
-              same : T (found g 1 q (with s v) r y) → y ≡ with s v
-              same k =
-                  let f = found-holds g 1 q (with s v) r y ly k in
-                  sym (f .listed .top .1 (with s v) grown-below (subst (Sub y) whole (f .upper)) grown)
+    pub next-adds : (before after : List ℕ) (o : ℕ) → Adds (2 ^ length g) (touched g q s b d) before count after o → Adds (2 ^ length g) (found g 1 q s c) before count after o
+    next-adds before after o x =
+        adds-same (2 ^ length g) (touched g q s (minus c d) d) (found g 1 q s c) before after count o all-touched
+        (subst (λ (y : ℕ). Adds (2 ^ length g) (touched g q s y d) before count after o) e x)
 
-              go : Dec (a < q) → unless (ltb a q) (with s v) y ≡ found g 1 q (with s v) r y
-              go (yes l) =
-                  ap (λ (c : Bool). unless c (with s v) y) (lt-ltb a q l)
-                  ∙ same-test false (found g 1 q (with s v) r y) (λ k. absurd k) (λ k.
-                  let f = found-holds g 1 q (with s v) r y ly k in
-                  omega (arith, f .listed .large, ap size (same k), size-next, h .counted))
-              go (no nl) =
-                  ap (λ (c : Bool). unless c (with s v) y) (le-ltb a q (omega arith))
-                  ∙ same-test (eqb y (with s v)) (found g 1 q (with s v) r y)
-                  (λ k. subst (λ (u : ℕ). T (found g 1 q (with s v) r u)) (sym (eqb→eq y (with s v) k))
-                  (found-test g 1 q (with s v) r (with s v) (record {
-                    lower = sub-refl (with s v);
-                    upper = λ u. omega (arith, bit-or (with s v) r u);
-                    listed = record { below = grown-below; large = omega (arith, size-next, h .counted); top = top };
-                  })))
-                  (λ k. subst (λ (u : ℕ). T (eqb y u)) (same k) (eqb-refl y))
+  -- no vertex is adjacent to all of s: it is a maximal clique
+  module _ (alone : m ≡ 0) where
+    none-beside : (u : ℕ) → bit m u ≡ 0
+    none-beside u = omega (arith, ap (λ (y : ℕ). bit y u) alone, bit-high 0 u (pow-pos u))
 
-          module _ (M a : ℕ) (eM : M ≡ length g) (ea : a ≡ have + 1) where
-            pub lonely-placeable : Placeable M q a j count
-            lonely-placeable =
-                subst (λ (y : ℕ). Placeable y q a j count) (sym eM)
-                (subst (λ (y : ℕ). Placeable (length g) q a y count) (sym z) (record { below = grown-below; room = room }))
-              where
-                room : q ≤ a → count + 1 < 2 ^ 64
-                room l =
-                    omega (
-                      arith,
-                      next-room,
-                      number-same (2 ^ length g) (unless (ltb a q) (with s v)) (found g 1 q (with s v) r) (lonely a ea),
-                      number-same (2 ^ length g) (only (with s v)) (unless (ltb a q) (with s v)) (λ y ly. ap (λ (c : Bool). unless c (with s v) y) (sym (le-ltb a q l))),
-                      number-only (2 ^ length g) (with s v) grown-below,
-                    )
+    whole : bitOr s c ≡ s
+    whole = ext (bitOr s c) s (λ u. omega (arith, bit-or s c u, h .part u, none-beside u))
 
-            pub lonely-adds : (before after : List ℕ) (o : ℕ) → Adds (2 ^ M) (unless (ltb a q) j) before count after o → Adds (2 ^ length g) (found g 1 q (with s v) r) before count after o
-            lonely-adds before after o y =
-                adds-same (2 ^ length g) (unless (ltb a q) (with s v)) (found g 1 q (with s v) r) before after count o (lonely a ea)
-                (subst (λ (u : ℕ). Adds (2 ^ u) (unless (ltb a q) (with s v)) before count after o) eM
-                (subst (λ (u : ℕ). Adds (2 ^ M) (unless (ltb a q) u) before count after o) z y))
+    top : Maximal g 1 s
+    top =
+        maximal-by-one g 1 s (h .clique) (λ x lx ex p.
+        let inside : In x m = h .common .every x lx (λ u iu. clique-adjacent g (h .valid) (with s x) u x (with-below (length g) s x (h .below) lx) p
+        (in-of-sub s (with s x) u (sub-with s x) iu) (with-same s x) (λ y. omega (arith, iu, subst (λ (v : ℕ). bit s v ≡ 0) (sym y) ex))) in
+        omega (arith, inside, none-beside x))
+
+    lonely : (y : ℕ) → y < 2 ^ length g → unless (ltb have q) s y ≡ found g 1 q s c y
+    lonely y ly = go (decLt have q)
+      where
+        same : T (found g 1 q s c y) → y ≡ s
+        same k =
+            let f = found-holds g 1 q s c y ly k in
+            sym (f .listed .top .1 s (h .below) (subst (Sub y) whole (f .upper)) (h .clique))
+
+        go : Dec (have < q) → unless (ltb have q) s y ≡ found g 1 q s c y
+        go (yes l) =
+            ap (λ (b : Bool). unless b s y) (lt-ltb have q l)
+            ∙ same-test false (found g 1 q s c y) (λ k. absurd k) (λ k.
+            let f = found-holds g 1 q s c y ly k in
+            omega (arith, f .listed .large, ap size (same k), h .counted))
+        go (no nl) =
+            ap (λ (b : Bool). unless b s y) (le-ltb have q (omega arith))
+            ∙ same-test (eqb y s) (found g 1 q s c y)
+            (λ k. subst (λ (u : ℕ). T (found g 1 q s c u)) (sym (eqb→eq y s k))
+            (found-test g 1 q s c s (record {
+              lower = sub-refl s;
+              upper = λ u. omega (arith, bit-or s c u);
+              listed = record { below = h .below; large = omega (arith, h .counted); top = top };
+            })))
+            (λ k. subst (λ (u : ℕ). T (eqb y u)) (same k) (eqb-refl y))
+
+    module _ (n : ℕ) (e : n ≡ length g) where
+      pub lonely-placeable : Placeable n q have s count
+      lonely-placeable =
+          subst (λ (y : ℕ). Placeable y q have s count) (sym e)
+          (record {
+            below = h .below;
+            room = λ l.
+                omega (
+                  arith,
+                  h .room,
+                  number-same (2 ^ length g) (unless (ltb have q) s) (found g 1 q s c) lonely,
+                  number-same (2 ^ length g) (only s) (unless (ltb have q) s) (λ y ly. ap (λ (b : Bool). unless b s y) (sym (le-ltb have q l))),
+                  number-only (2 ^ length g) s (h .below),
+                );
+          })
+
+      pub lonely-adds : (before after : List ℕ) (o : ℕ) → Adds (2 ^ n) (unless (ltb have q) s) before count after o → Adds (2 ^ length g) (found g 1 q s c) before count after o
+      lonely-adds before after o y =
+          adds-same (2 ^ length g) (unless (ltb have q) s) (found g 1 q s c) before after count o lonely
+          (subst (λ (u : ℕ). Adds (2 ^ u) (unless (ltb have q) s) before count after o) e y)
 
 -- ---- the top
 

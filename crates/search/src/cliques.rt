@@ -5,7 +5,8 @@ ghost use lib.ListN.{length};
 ghost use Rattle.sets.specs.Words.{mask, masks};
 ghost use Rattle.search.specs.Placing.{Adds};
 ghost use Rattle.search.specs.Ready.{unless};
-ghost use Rattle.search.specs.Cliques.{Covering, Placeable, Sweeping, touched};
+ghost use Rattle.search.specs.Cliques.{Covering, Placeable, Taking, Sweeping, touched};
+ghost use Rattle.search.specs.Found.{found};
 ghost use Rattle.search.specs.Choice.{Pickable};
 use sets::Set;
 
@@ -61,8 +62,35 @@ pub fn place_clique(
     crate::place::insert(slots, count, s)
 }
 
-// Places every listed clique that holds s, has a vertex of `todo` and none outside s, `base` and `todo`, and gives the new count. The common neighbours
-// of s are m, and it has `have` members. A vertex that was taken joins `base`, so the cliques come by their highest vertex of `todo`.
+// Places every listed clique that holds s, which has `have` members, and has no vertex outside s and c. The common neighbours of s are m.
+pub fn take(
+    rows: &[u64],
+    q: usize,
+    wide: usize,
+    have: usize,
+    s: Set,
+    c: Set,
+    m: Set,
+    slots: &mut [u64],
+    count: usize,
+) -> usize
+    requires { ⌜ Taking (masks (now rows)) q have (mask s) (mask c) (mask m) count ⌝ }
+    ensures { λ r. ⌜ Adds (2 ^ length (masks (now (rows .entry)))) (found (masks (now (rows .entry))) 1 q (mask s) (mask c))
+        (masks (now (slots .entry))) count (masks (now (slots .exit))) r ⌝ }
+{
+    if sets::is_empty(m) {
+        return place_clique(q, have, s, sets::count(rows), slots, count);
+    }
+    if have + sets::size(c) < q {
+        return count;
+    }
+    let next = agenda(rows, c, m, wide);
+    let others = sets::minus(c, next);
+    sweep(rows, q, wide, have, s, others, m, next, slots, count)
+}
+
+// Places those that have a vertex of `todo` and none outside s, `base` and `todo`. A vertex that was taken joins `base`, so the cliques come by their
+// highest vertex of `todo`.
 pub fn sweep(
     rows: &[u64],
     q: usize,
@@ -79,37 +107,19 @@ pub fn sweep(
     ensures { λ r. ⌜ Adds (2 ^ length (masks (now (rows .entry)))) (touched (masks (now (rows .entry))) q (mask s) (mask base) (mask todo))
         (masks (now (slots .entry))) count (masks (now (slots .exit))) r ⌝ }
 {
-    if sets::is_empty(todo) {
-        return count;
-    }
-    let v = sets::lowest(todo);
-    let left = sets::rest(todo, v);
-    let wider = sets::with(base, v);
-    let row = sets::get(rows, v);
-    let joined = sets::with(s, v);
     let more = have + 1;
-    let beside = sets::meet(m, row);
-    if sets::is_empty(beside) {
-        let placed = place_clique(q, more, joined, sets::count(rows), slots, count);
-        return sweep(rows, q, wide, have, s, wider, m, left, slots, placed);
+    let mut waiting = base;
+    let mut left = todo;
+    let mut n = count;
+    while !sets::is_empty(left) {
+        let v = sets::lowest(left);
+        let row = sets::get(rows, v);
+        let joined = sets::with(s, v);
+        let inside = sets::meet(waiting, row);
+        let beside = sets::meet(m, row);
+        left = sets::rest(left, v);
+        waiting = sets::with(waiting, v);
+        n = take(rows, q, wide, more, joined, inside, beside, slots, n);
     }
-    let inside = sets::meet(base, row);
-    if more + sets::size(inside) < q {
-        return sweep(rows, q, wide, have, s, wider, m, left, slots, count);
-    }
-    let next = agenda(rows, inside, beside, wide);
-    let others = sets::minus(inside, next);
-    let taken = sweep(
-        rows,
-        q,
-        wide,
-        more,
-        joined,
-        others,
-        beside,
-        next,
-        slots,
-        count,
-    );
-    sweep(rows, q, wide, have, s, wider, m, left, slots, taken)
+    n
 }
