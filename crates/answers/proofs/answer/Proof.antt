@@ -1,0 +1,119 @@
+-- `answers::answer` meets its contract: the graph that was read is listed, and a text that is no sheet is refused.
+use Prim.Native.Nat.{ℕ, _≤_}
+use mathlib.Core.Path.{_≡_, sym, ap, _∙_}
+use mathlib.Core.List.{List}
+use denote.Ref.{now}
+use lib.ListN.{length, replicate}
+use lib.Seq.{length-take-le}
+use Rattle.sets.specs.Words.{width, masks}
+use Rattle.sets.specs.Words.Operations.{count-masks}
+use Rattle.judging.specs.Refusal.{answered, mostVertices}
+use Rattle.sheets.specs.Sheet.{reading, rowsAfter}
+use Rattle.sheets.specs.Calls.{heading, headingOf, readReply}
+use Rattle.answers.specs.AnswerLaws.{rows-fit, answer-listed, answer-refused}
+use borrow.Author.Needs.{needs}
+use Rattle.answers.proofs.answer.Statement.{statement}
+use Rattle.answers.proofs.answer.Tie as tie
+
+slice-aggregate-read-sheet : tie.Need-slice-aggregate-read-sheet
+slice-aggregate-read-sheet c = search needs
+
+read-sheet-requires : tie.Need-read-sheet-requires
+read-sheet-requires c κs = search needs
+
+enum-known-read : tie.Need-enum-known-read
+enum-known-read c = search needs
+
+-- where a sheet was read: the start, what line 1 said, and the words that hold the rows
+abbrev start : tie.After-known-told → tie.Start
+start c = c .before .before .before .before .before .before .before .before .before
+
+abbrev n : tie.After-known-told → ℕ
+n c = c .before .read .given .0 .0
+
+abbrev k : tie.After-known-told → ℕ
+k c = c .before .read .given .0 .1 .0 .slack
+
+abbrev q : tie.After-known-told → ℕ
+q c = c .before .read .given .0 .1 .0 .floor
+
+abbrev words : tie.After-known-told → List ℕ
+words c = c .before .before .before .before .read-sheet .last .1 .0
+
+-- the array's length is the number of rows that the definition has room for
+room : length (masks (replicate width 0)) ≡ mostVertices
+room = sym (count-masks (replicate width 0))
+
+gave : (c : tie.After-known-told) → answered 0 (heading (n c) (k c) (q c)) ≡ headingOf (reading (now (start c .args .text)) mostVertices)
+gave c =
+    sym (ap readReply (c .before .read .given .1)) ∙ c .before .before .before .before .read-sheet .ensures .reply
+    ∙ ap (λ (m : ℕ). headingOf (reading (now (start c .args .text)) m)) room
+
+stored : (c : tie.After-known-told) → masks (words c) ≡ rowsAfter (reading (now (start c .args .text)) mostVertices) (masks (replicate width 0))
+stored c =
+    c .before .before .before .before .read-sheet .ensures .rows
+    ∙ ap (λ (m : ℕ). rowsAfter (reading (now (start c .args .text)) m) (masks (replicate width 0))) room
+
+fits : (c : tie.After-known-told) → n c ≤ length (words c)
+fits c =
+    let s = start c .args in
+    rows-fit (now (s .text)) (n c) (k c) (q c) (masks (replicate width 0)) (words c) (gave c) (stored c)
+
+array-share-prefix-rows : tie.Need-array-share-prefix-rows
+array-share-prefix-rows c = fits c
+
+slice-aggregate-list-out : tie.Need-slice-aggregate-list-out
+slice-aggregate-list-out c = sym (length-take-le (n (c .before)) (words (c .before)) (fits (c .before)))
+
+list-out-requires : tie.Need-list-out-requires
+list-out-requires c κs = search needs
+
+enum-known-read-2 : tie.Need-enum-known-read-2
+enum-known-read-2 c = search needs
+
+write-refusal-requires : tie.Need-write-refusal-requires
+write-refusal-requires c κs = search needs
+
+same-length : tie.Need-same-length
+same-length c = search needs
+
+same-length-2 : tie.Need-same-length-2
+same-length-2 c = search needs
+
+returns : tie.Need-returns
+returns c =
+    let at = c .before .before .before .before .before .before .before .before in
+    let s = start at .args in
+    let listed = c .before .before .before .before .list-out in
+    answer-listed (now (s .text)) (n at) (k at) (q at) (masks (replicate width 0)) (words at) (gave at) (stored at)
+    (masks (now (s .slots))) (masks (listed .last .1 .1 .0)) (now (s .out)) (listed .last .1 .1 .1 .0) (listed .result) (listed .ensures)
+
+same-length-3 : tie.Need-same-length-3
+same-length-3 c = search needs
+
+returns-2 : tie.Need-returns-2
+returns-2 c =
+    let s = c .before .before .before .before .before .before .before .before .before .before .before .before .before .args in
+    let first = c .before .before .before .before .before .before .before .before .read-sheet in
+    let refused = c .before .before .before .before .before .read2 .given in
+    let written = c .before .before .write-refusal in
+    answer-refused (now (s .text)) (masks (now (s .slots))) (now (s .out)) (written .last .1 .0) (written .result) (refused .0 .0)
+    (sym (ap readReply (refused .1)) ∙ first .ensures .reply ∙ ap (λ (m : ℕ). headingOf (reading (now (s .text)) m)) room) (written .ensures)
+
+pub answer-spec : {M : Type 1} → statement M
+answer-spec =
+    tie.close
+    (tie.spec
+    slice-aggregate-read-sheet
+    read-sheet-requires
+    enum-known-read
+    array-share-prefix-rows
+    slice-aggregate-list-out
+    list-out-requires
+    enum-known-read-2
+    write-refusal-requires
+    same-length
+    same-length-2
+    returns
+    same-length-3
+    returns-2)

@@ -1,0 +1,101 @@
+-- `answers::output::write_masks` meets its contract. The invariant: the lines of the masks passed, and then what stood behind them.
+use Rattle.sets.specs.Graph.{row}
+use borrow.Rule.Slice.PartMut.{same-len-mid}
+use Prim.Native.Nat.{_+_, _-_, _*_, _≤_}
+use native.Mathlib.Omega.{arith}
+use mathlib.Core.Path.{_≡_, refl, sym, _∙_}
+use mathlib.Core.List.{_++_}
+use denote.Ref.{now}
+use lib.ListN.{length, drop, take}
+use Rattle.sets.specs.Words.{masks, mask-word}
+use Rattle.sheets.specs.Lines.{lines}
+use Rattle.sheets.specs.Sheet.{rowDigits, rowLength}
+use Rattle.sheets.specs.LineLaws.{part-length, write-start, write-more, write-all}
+use Rattle.answers.proofs.output.write_masks.Statement.{statement}
+use Rattle.answers.proofs.output.write_masks.Tie as tie
+
+abbrev Inv-loop : tie.InvT-loop
+Inv-loop sets out₀ m i₀ out i = (i ≤ m) × (m ≡ length (masks sets)) × (length out ≡ length out₀) × (out ≡ lines rowDigits (take i (masks sets)) ++ drop (i * rowLength) out₀)
+
+abbrev μ-loop : tie.MeasureT-loop
+μ-loop sets out₀ m i₀ out i = m - i
+
+count-requires : tie.Need-count-requires Inv-loop μ-loop
+count-requires c κs = tt
+
+loop-holds : tie.Need-loop-holds Inv-loop μ-loop
+loop-holds c =
+    let a = c .before .before .before .args in
+    (omega arith, c .count .ensures, refl, write-start rowDigits (masks (now (a .sets))) (now (a .out)))
+
+mul-at : tie.Need-mul-at Inv-loop μ-loop
+mul-at c = omega arith
+
+add-end : tie.Need-add-end Inv-loop μ-loop
+add-end c = omega arith
+
+sub-write-line : tie.Need-sub-write-line Inv-loop μ-loop
+sub-write-line c = omega arith
+
+part-write-line-start : tie.Need-part-write-line-start Inv-loop μ-loop
+part-write-line-start c = omega arith
+
+part-write-line-end : tie.Need-part-write-line-end Inv-loop μ-loop
+part-write-line-end c = omega arith
+
+get-requires : tie.Need-get-requires Inv-loop μ-loop
+get-requires c κs = omega arith
+
+write-line-requires : tie.Need-write-line-requires Inv-loop μ-loop
+write-line-requires c κs =
+    let at = c .before .before .before .loop in
+    omega (arith, part-length (at .i * rowLength) rowLength (at .out) (omega arith))
+
+add-i : tie.Need-add-i Inv-loop μ-loop
+add-i c = omega arith
+
+loop-less : tie.Need-loop-less Inv-loop μ-loop
+loop-less c = omega arith
+
+loop-again : tie.Need-loop-again Inv-loop μ-loop
+unfolding row
+loop-again c =
+    let s = c .before .before .before .before .before .before .before .before .before .before in
+    let at = c .before .before .before .before .before .before .loop in
+    let word = c .before .before .before .get .result in
+    let part = c .before .before .write-line .last .0 in (
+      omega arith,
+      at .inv .1,
+      same-len-mid (at .i * rowLength) ((at .i * rowLength + rowLength) - at .i * rowLength) (at .out) part (c .before .before .write-line .kept .0) ∙ at .inv .2,
+      write-more rowDigits (at .i) word (masks (now (s .args .sets))) (now (s .args .out)) (at .out) part (omega arith) (omega arith) (at .inv .3)
+          (sym (mask-word word) ∙ c .before .before .before .get .ensures) (c .before .before .write-line .ensures),
+    )
+
+same-length : tie.Need-same-length Inv-loop μ-loop
+same-length c = c .before .loop .inv .2
+
+returns : tie.Need-returns Inv-loop μ-loop
+returns c =
+    let s = c .before .before .before .before .before in
+    c .before .loop .inv .3 ∙ write-all rowDigits (c .before .loop .i) (masks (now (s .args .sets))) (now (s .args .out)) (omega arith)
+
+pub write-masks-spec : {M : Type 1} → statement M
+write-masks-spec =
+    tie.close
+    (tie.spec
+    Inv-loop
+    μ-loop
+    count-requires
+    loop-holds
+    mul-at
+    add-end
+    sub-write-line
+    part-write-line-start
+    part-write-line-end
+    get-requires
+    write-line-requires
+    add-i
+    loop-less
+    loop-again
+    same-length
+    returns)

@@ -1,0 +1,3 @@
+-- What the program answers: definitions first, then their laws.
+pub mod Answer
+pub mod AnswerLaws

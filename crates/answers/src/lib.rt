@@ -1,0 +1,40 @@
+// The whole of what the program answers: the bytes of a sheet in, the bytes to print out.
+ghost use Prim.Native.Nat.{_≤_};
+ghost use lib.ListN.{length};
+ghost use Rattle.sets.specs.Words.{masks};
+ghost use Rattle.answers.specs.Answer.{Answers, WritesList, Room};
+
+mod output;
+
+use judging::Request;
+use judging::check;
+use search::ListFound;
+use sheets::SheetRead;
+
+// Lists the maximal k-plexes of the graph into the slots, and writes the list, or why there is none, to the front of `out`.
+fn list_out(rows: &[u64], request: Request, slots: &mut [u64], out: &mut [u8]) -> usize
+    requires { ⌜ Room (masks (now slots)) (now out) ⌝ }
+    ensures { λ r. ⌜ WritesList (masks (now (rows .entry))) (request .slack) (request .floor) (masks (now (slots .entry))) (masks (now (slots .exit))) (now (out .entry)) (now (out .exit)) r ⌝ }
+{
+    let found = search::list(rows, request, slots);
+    match found {
+        ListFound::Listed(m) => output::write_list(&slots[..m], out),
+        ListFound::Refused(f) => output::write_refusal(f, out),
+    }
+}
+
+// Answers the text: reads it as a sheet, lists the maximal k-plexes into the slots, and writes what the program prints to the front of `out`.
+// Outcome: how many bytes that is; the bytes beyond keep their contents.
+// What is printed for a text that is refused is its refusal, which leaves the slots as they were; number 6 makes all of them 0.
+// Cost: that of the list.
+pub fn answer(text: &[u8], slots: &mut [u64], out: &mut [u8]) -> usize
+    requires { ⌜ Room (masks (now slots)) (now out) ⌝ }
+    ensures { λ r. ⌜ Answers (now (text .entry)) (masks (now (slots .entry))) (masks (now (slots .exit))) (now (out .entry)) (now (out .exit)) r ⌝ }
+{
+    let mut rows = [0u64; check::MOST_VERTICES];
+    let read = sheets::read_sheet(text, &mut rows);
+    match read {
+        SheetRead::Read { vertices, request } => list_out(&rows[..vertices], request, slots, out),
+        SheetRead::Refused(f) => output::write_refusal(f, out),
+    }
+}

@@ -1,0 +1,70 @@
+// What is printed: lists and refusals, each written to the front of lent bytes.
+ghost use mathlib.Core.Path.{_≡_};
+ghost use mathlib.Core.List.{_++_};
+ghost use Prim.Native.Nat.{_+_, _*_, _%_, _≤_};
+ghost use lib.ListN.{length, drop};
+ghost use Rattle.sets.specs.Words.{masks};
+ghost use Rattle.judging.specs.Calls.{numberOf, valueOf};
+ghost use Rattle.sheets.specs.Lines.{lines};
+ghost use Rattle.sheets.specs.Sheet.{rowDigits, rowLength};
+ghost use Rattle.sheets.specs.Output.{figureZero, listText, refusalText, listLength, refusalLength};
+ghost use Rattle.answers.specs.Answer.{Writes};
+use judging::Refusal;
+use sheets::lines;
+
+const LINE_LENGTH: usize = 17;
+
+// R, the number, and a blank stand before the value's line.
+const VALUE_AT: usize = 4;
+
+const REFUSAL_LENGTH: usize = 21;
+
+// The last decimal digit of x.
+fn decimal(x: usize) -> u8
+    ensures { λ r. ⌜ r ≡ x % 10 + figureZero ⌝ }
+{
+    (x % 10 + 48) as u8
+}
+
+// Writes each mask on a line.
+fn write_masks(sets: &[u64], out: &mut [u8])
+    requires { ⌜ length (masks (now sets)) * rowLength ≤ length (now out) ⌝ }
+    ensures { λ _. ⌜ now (out .exit) ≡ lines rowDigits (masks (now (sets .entry))) ++ drop (length (masks (now (sets .entry))) * rowLength) (now (out .entry)) ⌝ }
+{
+    let m = sets::count(sets);
+    let mut i = 0;
+    while i < m {
+        let at = i * LINE_LENGTH;
+        let end = at + LINE_LENGTH;
+        lines::write_line(&mut out[at..end], sets::get(sets, i));
+        i += 1;
+    }
+}
+
+// Writes the number of the masks on a line, and then each mask. Gives the length of what is written.
+pub fn write_list(sets: &[u64], out: &mut [u8]) -> usize
+    requires { ⌜ listLength (length (masks (now sets))) ≤ length (now out) ⌝ }
+    ensures { λ r. ⌜ Writes (listText (masks (now (sets .entry)))) (now (out .entry)) (now (out .exit)) r ⌝ }
+{
+    let m = sets::count(sets);
+    lines::write_line(&mut out[..LINE_LENGTH], m as u64);
+    write_masks(sets, &mut out[LINE_LENGTH..]);
+    (m + 1) * LINE_LENGTH
+}
+
+// Writes R, the refusal's number, a blank and its value. Gives the length of what is written.
+pub fn write_refusal(refusal: Refusal, out: &mut [u8]) -> usize
+    requires { ⌜ refusalLength ≤ length (now out) ⌝ }
+    ensures { λ r. ⌜ Writes (refusalText (numberOf refusal) (valueOf refusal)) (now (out .entry)) (now (out .exit)) r ⌝ }
+{
+    let number = judging::number(refusal);
+    out[0] = b'R';
+    out[1] = decimal(number / 10);
+    out[2] = decimal(number);
+    out[3] = b' ';
+    lines::write_line(
+        &mut out[VALUE_AT..REFUSAL_LENGTH],
+        judging::value(refusal) as u64,
+    );
+    REFUSAL_LENGTH
+}
