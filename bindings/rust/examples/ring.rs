@@ -1,0 +1,14 @@
+//! Five vertices in a ring: judges a set, takes the core, and lists the maximal 2-plexes of three or more vertices.
+
+fn main() -> Result<(), kadvisk::Refusal> {
+    let ring = [0x12, 0x05, 0x0A, 0x14, 0x09];
+    println!("is 07 a 2-plex: {}", kadvisk::is_plex(&ring, 2, 0x07)?);
+    println!("core at floor 4: {:02X}", kadvisk::core(&ring, 2, 4)?);
+    for mask in kadvisk::list_all(&ring, 2, 3)? {
+        println!("{mask:02X}");
+    }
+    if let Err(refusal) = kadvisk::list(&ring, 33, 64, &mut []) {
+        println!("R{:02} {:016X}: {refusal}", refusal.number(), refusal.value());
+    }
+    Ok(())
+}

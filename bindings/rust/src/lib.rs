@@ -1,0 +1,255 @@
+//! All maximal k-plexes of a graph of up to 64 vertices.
+//!
+//! A graph is a slice of n rows, n from 1 to 64: bit b of `rows[a]` is set where a and b are adjacent. No vertex is adjacent to itself, and
+//! adjacency is mutual. A set of vertices is a `u64` in the same way, its mask. In a k-plex each member is adjacent to all members but at
+//! most k, itself counted. The slack k is 1 to 32, and the floor q, the least size that is listed, is 2k - 1 to 64.
+//!
+//! No call panics or has a condition that a caller must meet: what cannot be answered is refused, with a [`Refusal`]. The library below these
+//! functions is proved; the proof says for every input what is answered and what every buffer then holds.
+//!
+//! ```
+//! // five vertices in a ring, slack 2, floor 3
+//! let ring = [0x12, 0x05, 0x0A, 0x14, 0x09];
+//! let mut slots = [0; 8];
+//! let m = kadvisk::list(&ring, 2, 3, &mut slots)?;
+//! assert_eq!(slots[..m], [0x07, 0x0E, 0x13, 0x19, 0x1C]);
+//! # Ok::<(), kadvisk::Refusal>(())
+//! ```
+
+pub mod ffi;
+
+use std::fmt;
+
+/// Why a call declines. Where several causes hold, the one that comes first in the order that the call gives is told.
+#[derive(Clone, Copy, Debug, PartialEq, Eq, Hash)]
+pub enum Refusal {
+    /// 1: the number of rows, or n in a sheet, is not 1 to 64.
+    Vertices,
+    /// 2: the slack is not 1 to 32.
+    Slack,
+    /// 3: the floor is below 2k - 1 or above 64.
+    Floor,
+    /// 4: this row, the lowest such, has its own bit or a bit of n or above.
+    Row(usize),
+    /// 5: this row, the lowest such, has a vertex whose row lacks it.
+    OneWay(usize),
+    /// 6: there are fewer slots than maximal k-plexes to list, of which there are this many. All slots are now 0.
+    Slots(usize),
+    /// 7: a set, or a single vertex, reaches n or above.
+    Outside,
+    /// 8: this line of the sheet, from 1, is the first that is not as laid out.
+    Line(usize),
+    /// 9: the buffer is too short; this length is needed.
+    Room(usize),
+    /// 10: s and v are no k-plex, v is not in c, or s and c overlap.
+    Bound,
+}
+
+impl Refusal {
+    /// The refusal of this number and value; none where the number is not 1 to 10.
+    pub fn new(number: usize, value: usize) -> Option<Refusal> {
+        Some(match number {
+            1 => Refusal::Vertices,
+            2 => Refusal::Slack,
+            3 => Refusal::Floor,
+            4 => Refusal::Row(value),
+            5 => Refusal::OneWay(value),
+            6 => Refusal::Slots(value),
+            7 => Refusal::Outside,
+            8 => Refusal::Line(value),
+            9 => Refusal::Room(value),
+            10 => Refusal::Bound,
+            _ => return None,
+        })
+    }
+
+    /// The number of this refusal, 1 to 10.
+    pub fn number(self) -> usize {
+        match self {
+            Refusal::Vertices => 1,
+            Refusal::Slack => 2,
+            Refusal::Floor => 3,
+            Refusal::Row(_) => 4,
+            Refusal::OneWay(_) => 5,
+            Refusal::Slots(_) => 6,
+            Refusal::Outside => 7,
+            Refusal::Line(_) => 8,
+            Refusal::Room(_) => 9,
+            Refusal::Bound => 10,
+        }
+    }
+
+    /// The value that comes with it: a row, a count, a line or a length, and else 0.
+    pub fn value(self) -> usize {
+        match self {
+            Refusal::Row(x) | Refusal::OneWay(x) | Refusal::Slots(x) | Refusal::Line(x) | Refusal::Room(x) => x,
+            _ => 0,
+        }
+    }
+}
+
+impl fmt::Display for Refusal {
+    fn fmt(&self, f: &mut fmt::Formatter) -> fmt::Result {
+        match self {
+            Refusal::Vertices => write!(f, "the number of vertices is not 1 to 64"),
+            Refusal::Slack => write!(f, "the slack is not 1 to 32"),
+            Refusal::Floor => write!(f, "the floor is below 2k - 1 or above 64"),
+            Refusal::Row(a) => write!(f, "row {a} has its own bit, or a bit of n or above"),
+            Refusal::OneWay(a) => write!(f, "row {a} has a vertex whose row lacks {a}"),
+            Refusal::Slots(m) => write!(f, "there are {m} maximal k-plexes, more than slots"),
+            Refusal::Outside => write!(f, "a set or a vertex reaches n or above"),
+            Refusal::Line(l) => write!(f, "line {l} of the sheet is not as laid out"),
+            Refusal::Room(n) => write!(f, "the buffer is too short: {n} are needed"),
+            Refusal::Bound => write!(f, "s and v are no k-plex, v is not in c, or s and c overlap"),
+        }
+    }
+}
+
+impl std::error::Error for Refusal {}
+
+/// The cuts of the search, each with its switch. Every setting gives the same list; only the time differs.
+#[derive(Clone, Copy, Debug, PartialEq, Eq)]
+pub struct Cuts {
+    /// Start from the core instead of all vertices.
+    pub core: bool,
+    /// Beside a vertex that is taken keep only its two-hop reach. Without effect where `pairs` is on, which is stronger.
+    pub reach: bool,
+    /// Beside a vertex that is taken keep only those with enough common neighbours.
+    pub pairs: bool,
+    /// Skip a vertex whose second bound is below the floor.
+    pub second: bool,
+    /// Leave a branch whose partition bound is below the floor.
+    pub parted: bool,
+    /// Leave a branch to all of whose k-plexes one vertex can be added.
+    pub swallow: bool,
+    /// At slack 1 take only the vertices that a pivot is not adjacent to. Of the other cuts only `core` then counts.
+    pub pivot: bool,
+}
+
+impl Default for Cuts {
+    /// The setting of [`list`]: every cut but the second bound.
+    fn default() -> Cuts {
+        Cuts { core: true, reach: true, pairs: true, second: false, parted: true, swallow: true, pivot: true }
+    }
+}
+
+/// What line 1 of a sheet says.
+#[derive(Clone, Copy, Debug, PartialEq, Eq)]
+pub struct Heading {
+    pub vertices: usize,
+    pub slack: usize,
+    pub floor: usize,
+}
+
+fn answered(number: usize, value: usize) -> Result<(), Refusal> {
+    match Refusal::new(number, value) {
+        None => Ok(()),
+        Some(refusal) => Err(refusal),
+    }
+}
+
+fn found(outcome: ffi::Outcome) -> Result<u64, Refusal> {
+    answered(outcome.number, outcome.value).map(|()| outcome.found)
+}
+
+fn valued(outcome: ffi::Outcome) -> Result<usize, Refusal> {
+    answered(outcome.number, outcome.value).map(|()| outcome.value)
+}
+
+// SAFETY, for each call below: a pointer and a length of one slice are passed, which is lent for the call, and the calls keep neither. They are
+// proved to read and write within the slices, and ask nothing more of their caller.
+
+/// Is the set `s` a k-plex? The empty set is one.
+///
+/// Refusals, in this order: 1, 2, 4, 5, 7.
+pub fn is_plex(rows: &[u64], slack: usize, s: u64) -> Result<bool, Refusal> {
+    found(unsafe { ffi::kadvisk_is_plex(rows.as_ptr(), rows.len(), slack, s) }).map(|x| x == 1)
+}
+
+/// Is the set `s` a maximal k-plex, one that no other k-plex of the graph contains?
+///
+/// Refusals, in this order: 1, 2, 4, 5, 7.
+pub fn is_maximal(rows: &[u64], slack: usize, s: u64) -> Result<bool, Refusal> {
+    found(unsafe { ffi::kadvisk_is_maximal(rows.as_ptr(), rows.len(), slack, s) }).map(|x| x == 1)
+}
+
+/// The core: the largest set in which every member is adjacent to at least `floor - slack` members. It may be empty, and holds every k-plex of
+/// `floor` or more members.
+///
+/// Refusals, in this order: 1, 2, 3, 4, 5.
+pub fn core(rows: &[u64], slack: usize, floor: usize) -> Result<u64, Refusal> {
+    found(unsafe { ffi::kadvisk_core(rows.as_ptr(), rows.len(), slack, floor) })
+}
+
+/// The two-hop reach of the vertex `v`: all vertices at most two edges away, itself included.
+///
+/// Refusals, in this order: 1, 4, 5, 7.
+pub fn reach(rows: &[u64], v: usize) -> Result<u64, Refusal> {
+    found(unsafe { ffi::kadvisk_reach(rows.as_ptr(), rows.len(), v) })
+}
+
+/// The first bound: no k-plex that holds `s` and `v` and has no vertex outside `s` and `c` has more vertices.
+///
+/// Refusals, in this order: 1, 2, 4, 5, 7, 10.
+pub fn first_bound(rows: &[u64], slack: usize, s: u64, c: u64, v: usize) -> Result<usize, Refusal> {
+    found(unsafe { ffi::kadvisk_first_bound(rows.as_ptr(), rows.len(), slack, s, c, v) }).map(|x| x as usize)
+}
+
+/// The second bound, which is never above the first: no k-plex that holds `s` and `v` and has no vertex outside `s` and `c` has more vertices.
+///
+/// Refusals, in this order: 1, 2, 4, 5, 7, 10.
+pub fn second_bound(rows: &[u64], slack: usize, s: u64, c: u64, v: usize) -> Result<usize, Refusal> {
+    found(unsafe { ffi::kadvisk_second_bound(rows.as_ptr(), rows.len(), slack, s, c, v) }).map(|x| x as usize)
+}
+
+/// Writes every maximal k-plex of at least `floor` members to the first slots, as masks in rising order, each once, and gives their number m. Later
+/// slots keep what they held.
+///
+/// Refusals, in this order: 1, 2, 3, 4, 5, which leave the slots, and 6 with the exact m where there are fewer slots, which makes all slots 0. So a
+/// call with no slots counts; [`list_all`] does both.
+pub fn list(rows: &[u64], slack: usize, floor: usize, slots: &mut [u64]) -> Result<usize, Refusal> {
+    valued(unsafe { ffi::kadvisk_list(rows.as_ptr(), rows.len(), slack, floor, slots.as_mut_ptr(), slots.len()) })
+}
+
+/// As [`list`], with each cut of the search switched on or off.
+pub fn list_with(rows: &[u64], slack: usize, floor: usize, cuts: Cuts, slots: &mut [u64]) -> Result<usize, Refusal> {
+    let Cuts { core, reach, pairs, second, parted, swallow, pivot } = cuts;
+    valued(unsafe {
+        ffi::kadvisk_list_with(rows.as_ptr(), rows.len(), slack, floor, core, reach, pairs, second, parted, swallow, pivot, slots.as_mut_ptr(), slots.len())
+    })
+}
+
+/// How many maximal k-plexes of at least `floor` members there are.
+///
+/// Refusals, in this order: 1, 2, 3, 4, 5.
+pub fn count(rows: &[u64], slack: usize, floor: usize) -> Result<usize, Refusal> {
+    match list(rows, slack, floor, &mut []) {
+        Err(Refusal::Slots(m)) => Ok(m),
+        other => other,
+    }
+}
+
+/// Every maximal k-plex of at least `floor` members, as masks in rising order: counted first, and then listed.
+///
+/// Refusals, in this order: 1, 2, 3, 4, 5.
+pub fn list_all(rows: &[u64], slack: usize, floor: usize) -> Result<Vec<u64>, Refusal> {
+    let mut slots = vec![0; count(rows, slack, floor)?];
+    list(rows, slack, floor, &mut slots)?;
+    Ok(slots)
+}
+
+/// Reads the sheet in `text`: n rows are stored in the first of `rows`, and later ones keep their contents.
+///
+/// Refusals, in this order: 8 at line 1, 1, 2, 3, 8 at another line, 4, 5, 9. Each leaves every row as it was.
+pub fn read_sheet(text: &[u8], rows: &mut [u64]) -> Result<Heading, Refusal> {
+    let read = unsafe { ffi::kadvisk_read_sheet(text.as_ptr(), text.len(), rows.as_mut_ptr(), rows.len()) };
+    answered(read.number, read.value)?;
+    Ok(Heading { vertices: read.vertices, slack: read.slack, floor: read.floor })
+}
+
+/// Writes the sheet of the graph and the request to the front of `text` and gives its length, 7 + 17n. Later bytes keep theirs.
+///
+/// Refusals, in this order: 1, 2, 3, 4, 5, 9. Each leaves the whole text as it was.
+pub fn write_sheet(rows: &[u64], slack: usize, floor: usize, text: &mut [u8]) -> Result<usize, Refusal> {
+    valued(unsafe { ffi::kadvisk_write_sheet(rows.as_ptr(), rows.len(), slack, floor, text.as_mut_ptr(), text.len()) })
+}

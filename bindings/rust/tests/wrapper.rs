@@ -1,0 +1,68 @@
+//! The safe functions: what they make of outcomes and refusals.
+use kadvisk::{Cuts, Heading, Refusal};
+
+const RING: [u64; 5] = [0x12, 0x05, 0x0A, 0x14, 0x09];
+const LIST: [u64; 5] = [0x07, 0x0E, 0x13, 0x19, 0x1C];
+
+#[test]
+fn questions() {
+    assert_eq!(kadvisk::is_plex(&RING, 2, 0x07), Ok(true));
+    assert_eq!(kadvisk::is_plex(&RING, 1, 0x07), Ok(false));
+    assert_eq!(kadvisk::is_maximal(&RING, 2, 0x07), Ok(true));
+    assert_eq!(kadvisk::is_maximal(&RING, 2, 0x03), Ok(false));
+    assert_eq!(kadvisk::core(&RING, 2, 4), Ok(0x1F));
+    assert_eq!(kadvisk::core(&RING, 2, 5), Ok(0));
+    assert_eq!(kadvisk::reach(&[2, 5, 10, 4], 0), Ok(7));
+    let seven = [0x0E, 0x7D, 0x7B, 0x77, 0x0E, 0x0E, 0x0E];
+    assert_eq!(kadvisk::first_bound(&seven, 2, 0x07, 0x78, 3), Ok(8));
+    assert_eq!(kadvisk::second_bound(&seven, 2, 0x07, 0x78, 3), Ok(6));
+}
+
+#[test]
+fn lists() {
+    let mut slots = [9; 7];
+    assert_eq!(kadvisk::list(&RING, 2, 3, &mut slots), Ok(5));
+    assert_eq!(slots, [0x07, 0x0E, 0x13, 0x19, 0x1C, 9, 9]);
+    assert_eq!(kadvisk::count(&RING, 2, 3), Ok(5));
+    assert_eq!(kadvisk::count(&RING, 2, 6), Ok(0));
+    assert_eq!(kadvisk::list_all(&RING, 2, 3), Ok(LIST.to_vec()));
+    let off = Cuts { core: false, reach: false, pairs: false, second: false, parted: false, swallow: false, pivot: false };
+    assert_eq!(kadvisk::list_with(&RING, 2, 3, off, &mut slots), Ok(5));
+    assert_eq!(slots[..5], LIST);
+    assert_eq!(kadvisk::list_with(&RING, 2, 3, Cuts::default(), &mut slots[..4]), Err(Refusal::Slots(5)));
+    assert_eq!(slots, [0, 0, 0, 0, 0x1C, 9, 9]);
+}
+
+#[test]
+fn sheets() {
+    let mut text = [b'.'; 100];
+    assert_eq!(kadvisk::write_sheet(&RING, 2, 3, &mut text), Ok(92));
+    assert_eq!(&text[..24], b"050203\n0000000000000012\n");
+    assert_eq!(text[92..], [b'.'; 8]);
+    let mut rows = [7; 6];
+    assert_eq!(kadvisk::read_sheet(&text[..92], &mut rows), Ok(Heading { vertices: 5, slack: 2, floor: 3 }));
+    assert_eq!(rows, [0x12, 0x05, 0x0A, 0x14, 0x09, 7]);
+}
+
+#[test]
+fn refusals() {
+    let mut text = [0; 8];
+    for (answer, refusal) in [
+        (kadvisk::count(&[], 1, 1), Refusal::Vertices),
+        (kadvisk::count(&RING, 0, 1), Refusal::Slack),
+        (kadvisk::count(&RING, 2, 2), Refusal::Floor),
+        (kadvisk::count(&[0, 0, 4], 1, 1), Refusal::Row(2)),
+        (kadvisk::count(&[0, 1, 0], 1, 1), Refusal::OneWay(1)),
+        (kadvisk::list(&RING, 2, 3, &mut []), Refusal::Slots(5)),
+        (kadvisk::reach(&RING, 5).map(|_| 0), Refusal::Outside),
+        (kadvisk::read_sheet(b"050203\n", &mut []).map(|_| 0), Refusal::Line(2)),
+        (kadvisk::write_sheet(&RING, 2, 3, &mut text), Refusal::Room(92)),
+        (kadvisk::first_bound(&RING, 2, 1, 1, 0), Refusal::Bound),
+    ] {
+        assert_eq!(answer, Err(refusal));
+        assert_eq!(Refusal::new(refusal.number(), refusal.value()), Some(refusal));
+        assert!(!refusal.to_string().is_empty());
+    }
+    assert_eq!(Refusal::new(0, 0), None);
+    assert_eq!(Refusal::new(11, 0), None);
+}

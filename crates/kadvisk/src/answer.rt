@@ -1,0 +1,133 @@
+// The answers of the layers as outcomes.
+ghost use mathlib.Core.Path.{_≡_};
+ghost use Rattle.judging.specs.Calls.{judgedReply};
+ghost use Rattle.bounds.specs.Calls.{coreFoundReply, reachFoundReply};
+ghost use Rattle.bounds.specs.BoundCalls.{boundFoundReply};
+ghost use Rattle.search.specs.Calls.{listFoundReply};
+ghost use Rattle.sheets.specs.Calls.{readReply, writtenReply};
+ghost use Rattle.judging.specs.Calls.{numberOf, valueOf};
+ghost use Rattle.kadvisk.specs.Outcome.{outcome, readOutcome, yesNo, itself, nothing, success, declined};
+use crate::Outcome;
+use crate::ReadOutcome;
+use bounds::BoundFound;
+use bounds::CoreFound;
+use bounds::ReachFound;
+use judging::Judged;
+use judging::Refusal;
+use search::ListFound;
+use sheets::SheetRead;
+use sheets::SheetWritten;
+
+// A success that found x.
+fn found(x: u64) -> Outcome
+    ensures { λ r. ⌜ r ≡ success 0 x ⌝ }
+{
+    Outcome {
+        number: 0,
+        value: 0,
+        found: x,
+    }
+}
+
+// A success whose value says all.
+fn valued(x: usize) -> Outcome
+    ensures { λ r. ⌜ r ≡ success x 0 ⌝ }
+{
+    Outcome {
+        number: 0,
+        value: x,
+        found: 0,
+    }
+}
+
+fn refused(refusal: Refusal) -> Outcome
+    ensures { λ r. ⌜ r ≡ declined (numberOf refusal) (valueOf refusal) ⌝ }
+{
+    let number = judging::number(refusal);
+    let value = judging::value(refusal);
+    Outcome {
+        number,
+        value,
+        found: 0,
+    }
+}
+
+pub fn judged(answer: Judged) -> Outcome
+    ensures { λ r. ⌜ r ≡ outcome yesNo (judgedReply answer) ⌝ }
+{
+    match answer {
+        Judged::Yes => found(1),
+        Judged::No => found(0),
+        Judged::Refused(f) => refused(f),
+    }
+}
+
+pub fn core(answer: CoreFound) -> Outcome
+    ensures { λ r. ⌜ r ≡ outcome itself (coreFoundReply answer) ⌝ }
+{
+    match answer {
+        CoreFound::Core(s) => found(s),
+        CoreFound::Refused(f) => refused(f),
+    }
+}
+
+pub fn reach(answer: ReachFound) -> Outcome
+    ensures { λ r. ⌜ r ≡ outcome itself (reachFoundReply answer) ⌝ }
+{
+    match answer {
+        ReachFound::Reach(s) => found(s),
+        ReachFound::Refused(f) => refused(f),
+    }
+}
+
+pub fn bound(answer: BoundFound) -> Outcome
+    ensures { λ r. ⌜ r ≡ outcome itself (boundFoundReply answer) ⌝ }
+{
+    match answer {
+        BoundFound::Bound(b) => found(b as u64),
+        BoundFound::Refused(f) => refused(f),
+    }
+}
+
+pub fn listed(answer: ListFound) -> Outcome
+    ensures { λ r. ⌜ r ≡ outcome nothing (listFoundReply answer) ⌝ }
+{
+    match answer {
+        ListFound::Listed(m) => valued(m),
+        ListFound::Refused(f) => refused(f),
+    }
+}
+
+pub fn written(answer: SheetWritten) -> Outcome
+    ensures { λ r. ⌜ r ≡ outcome nothing (writtenReply answer) ⌝ }
+{
+    match answer {
+        SheetWritten::Written(length) => valued(length),
+        SheetWritten::Refused(f) => refused(f),
+    }
+}
+
+pub fn read(answer: SheetRead) -> ReadOutcome
+    ensures { λ r. ⌜ r ≡ readOutcome (readReply answer) ⌝ }
+{
+    match answer {
+        SheetRead::Read { vertices, request } => ReadOutcome {
+            number: 0,
+            value: 0,
+            vertices,
+            slack: request.slack,
+            floor: request.floor,
+        },
+        SheetRead::Refused(f) => {
+            let number = judging::number(f);
+            let value = judging::value(f);
+            ReadOutcome {
+                number,
+                value,
+                vertices: 0,
+                slack: 0,
+                floor: 0,
+            }
+        }
+    }
+}

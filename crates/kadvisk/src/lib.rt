@@ -1,0 +1,168 @@
+// The library for C and Rust: every public call on numbers and lent buffers, each answered by a plain struct. None asks anything of its caller
+// beyond what its types say.
+ghost use mathlib.Core.Path.{_≡_};
+ghost use Rattle.sets.specs.Words.{mask, masks};
+ghost use Rattle.judging.specs.Calls.{plexReply, maximalReply};
+ghost use Rattle.bounds.specs.Calls.{coreReply, reachReply};
+ghost use Rattle.bounds.specs.BoundCalls.{firstBoundReply, secondBoundReply};
+ghost use Rattle.kadvisk.specs.Outcome.{outcome, yesNo, itself, Listed, Read, Wrote};
+
+mod answer;
+
+use judging::Request;
+use search::Cuts;
+
+// The outcome of a call. `number` is 0 for a success and else document 01's number of the refusal. `found` is what a question found: 1 or 0 for yes or
+// no, a set's mask, a bound; it is 0 with a refusal, and where `value` says all.
+#[repr(C)]
+pub struct Outcome {
+    pub number: usize,
+    pub value: usize,
+    pub found: u64,
+}
+
+// The outcome of reading a sheet: of a success n, the slack and the floor, which are 0 with a refusal.
+#[repr(C)]
+pub struct ReadOutcome {
+    pub number: usize,
+    pub value: usize,
+    pub vertices: usize,
+    pub slack: usize,
+    pub floor: usize,
+}
+
+// Is the set s a k-plex of the graph with these rows? Found: 1 for yes, 0 for no. Refusals: 1, 2, 4, 5, 7.
+#[no_mangle]
+pub extern "C" fn kadvisk_is_plex(rows: &[u64], slack: usize, s: u64) -> Outcome
+    ensures { λ r. ⌜ r ≡ outcome yesNo (plexReply (masks (now (rows .entry))) slack (mask s)) ⌝ }
+{
+    let judged = judging::judge_plex(rows, slack, s);
+    answer::judged(judged)
+}
+
+// Is the set s a maximal k-plex of the graph with these rows? Found: 1 for yes, 0 for no. Refusals: 1, 2, 4, 5, 7.
+#[no_mangle]
+pub extern "C" fn kadvisk_is_maximal(rows: &[u64], slack: usize, s: u64) -> Outcome
+    ensures { λ r. ⌜ r ≡ outcome yesNo (maximalReply (masks (now (rows .entry))) slack (mask s)) ⌝ }
+{
+    let judged = judging::judge_maximal(rows, slack, s);
+    answer::judged(judged)
+}
+
+// The core for this slack and floor. Found: its mask. Refusals: 1, 2, 3, 4, 5.
+#[no_mangle]
+pub extern "C" fn kadvisk_core(rows: &[u64], slack: usize, floor: usize) -> Outcome
+    ensures { λ r. ⌜ r ≡ outcome itself (coreReply (masks (now (rows .entry))) slack floor) ⌝ }
+{
+    let found = bounds::find_core(rows, Request { slack, floor });
+    answer::core(found)
+}
+
+// The two-hop reach of the vertex v. Found: its mask. Refusals: 1, 4, 5, 7.
+#[no_mangle]
+pub extern "C" fn kadvisk_reach(rows: &[u64], v: usize) -> Outcome
+    ensures { λ r. ⌜ r ≡ outcome itself (reachReply (masks (now (rows .entry))) v) ⌝ }
+{
+    let found = bounds::find_reach(rows, v);
+    answer::reach(found)
+}
+
+// The first bound on the k-plexes that hold s and v and have no vertex outside s and c. Found: the bound. Refusals: 1, 2, 4, 5, 7, 10.
+#[no_mangle]
+pub extern "C" fn kadvisk_first_bound(
+    rows: &[u64],
+    slack: usize,
+    s: u64,
+    c: u64,
+    v: usize,
+) -> Outcome
+    ensures { λ r. ⌜ r ≡ outcome itself (firstBoundReply (masks (now (rows .entry))) slack (mask s) (mask c) v) ⌝ }
+{
+    let found = bounds::first_bound(rows, slack, s, c, v);
+    answer::bound(found)
+}
+
+// The second bound, which is never above the first. Found: the bound. Refusals: 1, 2, 4, 5, 7, 10.
+#[no_mangle]
+pub extern "C" fn kadvisk_second_bound(
+    rows: &[u64],
+    slack: usize,
+    s: u64,
+    c: u64,
+    v: usize,
+) -> Outcome
+    ensures { λ r. ⌜ r ≡ outcome itself (secondBoundReply (masks (now (rows .entry))) slack (mask s) (mask c) v) ⌝ }
+{
+    let found = bounds::second_bound(rows, slack, s, c, v);
+    answer::bound(found)
+}
+
+// Every maximal k-plex of at least `floor` members, as masks in rising order, each once. Value: m, their number; the first m slots hold them, and the
+// later ones keep what they held. Refusals: 1, 2, 3, 4, 5, which leave the slots, and 6 with the exact m, which makes every slot 0.
+#[no_mangle]
+pub extern "C" fn kadvisk_list(
+    rows: &[u64],
+    slack: usize,
+    floor: usize,
+    slots: &mut [u64],
+) -> Outcome
+    ensures { λ r. ⌜ Listed (masks (now (rows .entry))) slack floor (masks (now (slots .entry))) (masks (now (slots .exit))) r ⌝ }
+{
+    let found = search::list(rows, Request { slack, floor }, slots);
+    answer::listed(found)
+}
+
+// The same list, with each cut of the search switched on or off. Only the time differs.
+#[no_mangle]
+pub extern "C" fn kadvisk_list_with(
+    rows: &[u64],
+    slack: usize,
+    floor: usize,
+    core: bool,
+    reach: bool,
+    pairs: bool,
+    second: bool,
+    parted: bool,
+    swallow: bool,
+    pivot: bool,
+    slots: &mut [u64],
+) -> Outcome
+    ensures { λ r. ⌜ Listed (masks (now (rows .entry))) slack floor (masks (now (slots .entry))) (masks (now (slots .exit))) r ⌝ }
+{
+    let cuts = Cuts {
+        core,
+        reach,
+        pairs,
+        second,
+        parted,
+        swallow,
+        pivot,
+    };
+    let found = search::list_with(rows, Request { slack, floor }, cuts, slots);
+    answer::listed(found)
+}
+
+// Reads the sheet in the text into the first of the rows; later rows keep their contents.
+// Refusals: 8 at line 1, 1, 2, 3, 8, 4, 5, 9, in this order; each leaves every row as it was.
+#[no_mangle]
+pub extern "C" fn kadvisk_read_sheet(text: &[u8], rows: &mut [u64]) -> ReadOutcome
+    ensures { λ r. ⌜ Read (now (text .entry)) (masks (now (rows .entry))) (masks (now (rows .exit))) r ⌝ }
+{
+    let read = sheets::read_sheet(text, rows);
+    answer::read(read)
+}
+
+// Writes the sheet of the graph and the request to the front of the text; the bytes beyond it keep theirs. Value: its length, 7 + 17n.
+// Refusals: 1, 2, 3, 4, 5, 9, in this order; each leaves the whole text as it was.
+#[no_mangle]
+pub extern "C" fn kadvisk_write_sheet(
+    rows: &[u64],
+    slack: usize,
+    floor: usize,
+    text: &mut [u8],
+) -> Outcome
+    ensures { λ r. ⌜ Wrote (masks (now (rows .entry))) slack floor (now (text .entry)) (now (text .exit)) r ⌝ }
+{
+    let written = sheets::write_sheet(rows, Request { slack, floor }, text);
+    answer::written(written)
+}

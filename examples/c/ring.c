@@ -1,0 +1,39 @@
+/* Five vertices in a ring: judges a set, takes the core, lists the maximal 2-plexes of three or more vertices, and writes and reads the sheet. */
+#include <inttypes.h>
+#include <stdio.h>
+
+#include "kadvisk.h"
+
+static void refusal(size_t number, size_t value) {
+    printf("R%02zu %016zX\n", number, value);
+}
+
+int main(void) {
+    const uint64_t ring[5] = {0x12, 0x05, 0x0A, 0x14, 0x09};
+    uint64_t slots[8], rows[64];
+    uint8_t text[1095];
+
+    printf("is 07 a 2-plex: %" PRIu64 "\n", kadvisk_is_plex(ring, 5, 2, 0x07).found);
+    printf("is 07 a maximal one: %" PRIu64 "\n", kadvisk_is_maximal(ring, 5, 2, 0x07).found);
+    printf("core at floor 4: %02" PRIX64 "\n", kadvisk_core(ring, 5, 2, 4).found);
+    printf("reach of 0: %02" PRIX64 "\n", kadvisk_reach(ring, 5, 0).found);
+
+    kadvisk_outcome list = kadvisk_list(ring, 5, 2, 3, slots, 8);
+    if (list.number != 0) {
+        refusal(list.number, list.value);
+        return 1;
+    }
+    for (size_t i = 0; i < list.value; i++) {
+        printf("%02" PRIX64 "\n", slots[i]);
+    }
+
+    /* too few slots: the refusal gives the exact number */
+    list = kadvisk_list(ring, 5, 2, 3, slots, 4);
+    refusal(list.number, list.value);
+
+    kadvisk_outcome sheet = kadvisk_write_sheet(ring, 5, 2, 3, text, sizeof text);
+    fwrite(text, 1, sheet.value, stdout);
+    kadvisk_read_outcome read = kadvisk_read_sheet(text, sheet.value, rows, 64);
+    printf("n %zu, k %zu, q %zu\n", read.vertices, read.slack, read.floor);
+    return 0;
+}

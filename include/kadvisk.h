@@ -1,0 +1,100 @@
+/* Kadvisk: all maximal k-plexes of a graph of up to 64 vertices.
+ *
+ * A graph is n rows of 64 bits, n from 1 to 64: bit b of rows[a], of value 2^b, is set where a and b are adjacent. No vertex is adjacent to itself,
+ * and adjacency is mutual. A set of vertices is one 64-bit number in the same way, its mask. In a k-plex each member is adjacent to at least
+ * |S| - k members, so a member counts itself among the k that it may miss; the empty set is one. A maximal k-plex is one that no other k-plex of
+ * the graph contains. The slack k is 1 to 32, and the floor q, the least size that is listed, is 2k - 1 to 64.
+ *
+ * Every call answers every input: what it cannot answer it refuses, with a number and a value. The first cause in the order that the call gives is told.
+ *
+ *    number  cause                                                      value
+ *         1  n is not 1 to 64                                           0
+ *         2  the slack is not 1 to 32                                   0
+ *         3  the floor is below 2k - 1 or above 64                      0
+ *         4  a row has its own bit, or a bit of n or above              the lowest such row
+ *         5  a row a has b, but row b lacks a                           the lowest such a
+ *         6  fewer slots than m                                         m
+ *         7  a set, or a single vertex, reaches n or above              0
+ *         8  the text is not a sheet                                    the first line that is wrong, from 1
+ *         9  the buffer for rows or text is too short                   the length needed
+ *        10  s and v are no k-plex, v is not in c, or s and c overlap   0
+ *
+ * A refusal leaves every buffer as it was, but for 6, which makes all slots 0. Nothing is allocated or kept between calls, and calls may run at the same
+ * time on other buffers. The caller sees to it that a pointer is not null, is aligned, and has as many elements behind it as the length after it says
+ * (which may be 0); that a buffer that is written overlaps no other; and that a bool is 0 or 1.
+ *
+ * Link with libkadvisk.a (x86-64 Linux). All calls are proved: for every input what they answer, what the buffers then hold, and that they end.
+ */
+#ifndef KADVISK_H
+#define KADVISK_H
+
+#include <stdbool.h>
+#include <stddef.h>
+#include <stdint.h>
+
+#ifdef __cplusplus
+extern "C" {
+#endif
+
+/* The outcome of a call. */
+typedef struct {
+    size_t number;  /* 0 for a success, and else the number of the refusal */
+    size_t value;   /* of a refusal as above; of a success 0 where the call names none */
+    uint64_t found; /* what a question found; 0 with a refusal, and where the call names nothing found */
+} kadvisk_outcome;
+
+/* The outcome of reading a sheet. The last three are 0 with a refusal. */
+typedef struct {
+    size_t number;
+    size_t value;
+    size_t vertices; /* n */
+    size_t slack;    /* k */
+    size_t floor;    /* q */
+} kadvisk_read_outcome;
+
+/* Is the set s a k-plex? Found: 1 for yes, 0 for no. Refusals, in this order: 1, 2, 4, 5, 7. */
+kadvisk_outcome kadvisk_is_plex(const uint64_t *rows, size_t n, size_t slack, uint64_t s);
+
+/* Is the set s a maximal k-plex? Found: 1 for yes, 0 for no. Refusals, in this order: 1, 2, 4, 5, 7. */
+kadvisk_outcome kadvisk_is_maximal(const uint64_t *rows, size_t n, size_t slack, uint64_t s);
+
+/* The core: the largest set in which every member is adjacent to at least q - k members. It may be empty, and holds every k-plex of q or more members.
+ * Found: its mask. Refusals, in this order: 1, 2, 3, 4, 5. */
+kadvisk_outcome kadvisk_core(const uint64_t *rows, size_t n, size_t slack, size_t floor);
+
+/* The two-hop reach of the vertex v: all vertices at most two edges away, itself included. Found: its mask. Refusals, in this order: 1, 4, 5, 7. */
+kadvisk_outcome kadvisk_reach(const uint64_t *rows, size_t n, size_t v);
+
+/* Two bounds on the size of every k-plex that holds the set s and the vertex v and has no vertex outside s and c. The second is never above the first.
+ * Found: the bound. Refusals, in this order: 1, 2, 4, 5, 7, 10. */
+kadvisk_outcome kadvisk_first_bound(const uint64_t *rows, size_t n, size_t slack, uint64_t s, uint64_t c, size_t v);
+kadvisk_outcome kadvisk_second_bound(const uint64_t *rows, size_t n, size_t slack, uint64_t s, uint64_t c, size_t v);
+
+/* The list: every maximal k-plex of q or more members, each once, as masks in rising order. Value: m, their number. The first m slots hold them, and the
+ * later ones keep what they held. Refusals, in this order: 1, 2, 3, 4, 5, which leave the slots, and 6 with the exact m where there are fewer slots,
+ * which makes all slots 0. So a call with room 0 counts: m = 0 is a success, and any other m comes with refusal 6. */
+kadvisk_outcome kadvisk_list(const uint64_t *rows, size_t n, size_t slack, size_t floor, uint64_t *slots, size_t room);
+
+/* The same list, by a search whose cuts are switched on or off; only the time differs. kadvisk_list has all on but second.
+ *    core     start from the core instead of all vertices
+ *    reach    beside a vertex that is taken keep only its two-hop reach (without effect where pairs is on)
+ *    pairs    beside a vertex that is taken keep only those with enough common neighbours
+ *    second   skip a vertex whose second bound is below the floor
+ *    parted   leave a branch whose partition bound is below the floor
+ *    swallow  leave a branch to all of whose k-plexes one vertex can be added
+ *    pivot    at slack 1 take only the vertices that a pivot is not adjacent to (of the others only core then counts) */
+kadvisk_outcome kadvisk_list_with(const uint64_t *rows, size_t n, size_t slack, size_t floor, bool core, bool reach, bool pairs, bool second, bool parted,
+                                  bool swallow, bool pivot, uint64_t *slots, size_t room);
+
+/* Reads a sheet: line 1 has n, k and q in two hexadecimal digits each, capitals for A to F, then each row has a line of 16, and every line ends in byte 10.
+ * The first n of the rows become the graph, and the later ones keep what they held. Refusals, in this order: 8 at line 1, 1, 2, 3, 8, 4, 5, 9. */
+kadvisk_read_outcome kadvisk_read_sheet(const uint8_t *text, size_t length, uint64_t *rows, size_t room);
+
+/* Writes the sheet of a graph and a request. Value: its length, 7 + 17n; the bytes beyond keep what they held. Refusals, in this order: 1, 2, 3, 4, 5, 9. */
+kadvisk_outcome kadvisk_write_sheet(const uint64_t *rows, size_t n, size_t slack, size_t floor, uint8_t *text, size_t room);
+
+#ifdef __cplusplus
+}
+#endif
+
+#endif

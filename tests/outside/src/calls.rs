@@ -1,0 +1,59 @@
+//! The exported calls on slices, with the plain numbers of their outcomes.
+use kadvisk::ffi::{self, Outcome, ReadOutcome};
+use kadvisk::Cuts;
+
+pub fn is_plex(rows: &[u64], k: usize, s: u64) -> Outcome {
+    unsafe { ffi::kadvisk_is_plex(rows.as_ptr(), rows.len(), k, s) }
+}
+
+pub fn is_maximal(rows: &[u64], k: usize, s: u64) -> Outcome {
+    unsafe { ffi::kadvisk_is_maximal(rows.as_ptr(), rows.len(), k, s) }
+}
+
+pub fn core(rows: &[u64], k: usize, q: usize) -> Outcome {
+    unsafe { ffi::kadvisk_core(rows.as_ptr(), rows.len(), k, q) }
+}
+
+pub fn reach(rows: &[u64], v: usize) -> Outcome {
+    unsafe { ffi::kadvisk_reach(rows.as_ptr(), rows.len(), v) }
+}
+
+pub fn first_bound(rows: &[u64], k: usize, s: u64, c: u64, v: usize) -> Outcome {
+    unsafe { ffi::kadvisk_first_bound(rows.as_ptr(), rows.len(), k, s, c, v) }
+}
+
+pub fn second_bound(rows: &[u64], k: usize, s: u64, c: u64, v: usize) -> Outcome {
+    unsafe { ffi::kadvisk_second_bound(rows.as_ptr(), rows.len(), k, s, c, v) }
+}
+
+pub fn list(rows: &[u64], k: usize, q: usize, slots: &mut [u64]) -> Outcome {
+    unsafe { ffi::kadvisk_list(rows.as_ptr(), rows.len(), k, q, slots.as_mut_ptr(), slots.len()) }
+}
+
+pub fn list_with(rows: &[u64], k: usize, q: usize, cuts: Cuts, slots: &mut [u64]) -> Outcome {
+    let Cuts { core, reach, pairs, second, parted, swallow, pivot } = cuts;
+    unsafe { ffi::kadvisk_list_with(rows.as_ptr(), rows.len(), k, q, core, reach, pairs, second, parted, swallow, pivot, slots.as_mut_ptr(), slots.len()) }
+}
+
+pub fn read_sheet(text: &[u8], rows: &mut [u64]) -> ReadOutcome {
+    unsafe { ffi::kadvisk_read_sheet(text.as_ptr(), text.len(), rows.as_mut_ptr(), rows.len()) }
+}
+
+pub fn write_sheet(rows: &[u64], k: usize, q: usize, text: &mut [u8]) -> Outcome {
+    unsafe { ffi::kadvisk_write_sheet(rows.as_ptr(), rows.len(), k, q, text.as_mut_ptr(), text.len()) }
+}
+
+/// The outcome of a success.
+pub fn success(value: usize, found: u64) -> Outcome {
+    Outcome { number: 0, value, found }
+}
+
+/// The outcome of a refusal.
+pub fn refused((number, value): (usize, usize)) -> Outcome {
+    Outcome { number, value, found: 0 }
+}
+
+/// The outcome of a refusal to read.
+pub fn unread((number, value): (usize, usize)) -> ReadOutcome {
+    ReadOutcome { number, value, vertices: 0, slack: 0, floor: 0 }
+}

@@ -1,0 +1,81 @@
+//! Inputs that several tests share.
+use crate::instances::{self, Rng};
+
+/// How many cases a test tries: `n`, and 25 times as many in the longer mode (KADVISK_LONG in the environment).
+pub fn many(n: usize) -> usize {
+    if std::env::var_os("KADVISK_LONG").is_some() {
+        25 * n
+    } else {
+        n
+    }
+}
+
+/// Every graph of n vertices.
+pub fn all_graphs(n: usize) -> impl Iterator<Item = Vec<u64>> {
+    let pairs: Vec<(usize, usize)> = (0..n).flat_map(|a| (0..a).map(move |b| (a, b))).collect();
+    (0..1u64 << pairs.len()).map(move |choice| {
+        let mut rows = vec![0u64; n];
+        for (i, &(a, b)) in pairs.iter().enumerate() {
+            if choice >> i & 1 == 1 {
+                rows[a] |= 1 << b;
+                rows[b] |= 1 << a;
+            }
+        }
+        rows
+    })
+}
+
+/// A graph of `low` to `high` vertices, of any density, now and then with dense parts.
+pub fn graph(rng: &mut Rng, low: usize, high: usize) -> Vec<u64> {
+    let (n, p, seed) = (rng.between(low, high), 0.02 + 0.96 * rng.unit(), rng.word());
+    match rng.below(4) {
+        0 => instances::planted(n, p / 3.0, 2, rng.between(1, n), 0.9, seed),
+        1 => instances::communities(n, rng.between(1, n), 0.9, p / 4.0, seed),
+        _ => instances::random(n, p, seed),
+    }
+}
+
+/// A set of vertices below n, of any density.
+pub fn subset(rng: &mut Rng, n: usize) -> u64 {
+    let p = rng.unit();
+    (0..n).filter(|_| rng.chance(p)).map(|v| 1u64 << v).sum()
+}
+
+/// A k-plex, grown by random vertices while it stays one and a throw allows.
+pub fn grown_plex(rng: &mut Rng, rows: &[u64], k: usize) -> u64 {
+    let mut s = 0;
+    for _ in 0..rng.below(3 * rows.len() + 1) {
+        let v = rng.below(rows.len());
+        if crate::plain::is_plex(rows, k, s | 1 << v) {
+            s |= 1 << v;
+        }
+    }
+    s
+}
+
+/// The four dense or sparse ways in which a table can be wrong, now and then, in place.
+pub fn damage(rng: &mut Rng, rows: &mut [u64]) {
+    let n = rows.len();
+    if n == 0 {
+        return;
+    }
+    for _ in 0..rng.below(3) {
+        let a = rng.below(n);
+        match rng.below(4) {
+            0 => rows[a] ^= 1 << (a % 64),
+            1 => rows[a] ^= 1 << rng.below(64),
+            2 => rows[a] ^= 1 << rng.below(n.min(64)),
+            _ => rows[a] = rng.word(),
+        }
+    }
+}
+
+/// Numbers at and around the limits.
+pub fn slack(rng: &mut Rng) -> usize {
+    [0, 1, 1, 2, 2, 3, 4, 5, 8, 31, 32, 33, 34, 255, usize::MAX][rng.below(15)]
+}
+
+pub fn floor(rng: &mut Rng, k: usize) -> usize {
+    let least = k.wrapping_mul(2).wrapping_sub(1);
+    [0, least, least, least, least.wrapping_sub(1), least.wrapping_add(1), least.wrapping_add(3), 62, 63, 64, 65, 256, usize::MAX][rng.below(13)]
+}

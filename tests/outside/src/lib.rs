@@ -1,0 +1,20 @@
+//! Independent implementations in plain Rust, against which the tests hold the library and the benchmark times it.
+//!
+//!   plain      k-plexes, core, reach and bounds straight from their definitions, over lists of vertices
+//!   refusals   which refusal a call owes, from the table of refusals
+//!   text       sheets, read and written by lines
+//!   brute      the list by trying all sets, up to 16 vertices
+//!   fp         the list by the published algorithm (Dai and others; degeneracy seeds, excluded set, second bound)
+//!   cliques    the list for slack 1 by Bron and Kerbosch with Tomita's pivot
+//!   instances  graphs of our own making
+//!   calls      the exported calls on slices
+//!   cases      inputs that several tests share
+pub mod brute;
+pub mod calls;
+pub mod cases;
+pub mod cliques;
+pub mod fp;
+pub mod instances;
+pub mod plain;
+pub mod refusals;
+pub mod text;

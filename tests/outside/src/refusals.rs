@@ -1,0 +1,59 @@
+//! Which refusal a call owes, from the table of refusals: the number and the value of the first cause that holds, in the order of the call.
+use crate::plain::{adjacent, is_plex};
+
+/// The number and the value of a refusal, or none.
+pub type Refused = Option<(usize, usize)>;
+
+pub fn when(holds: bool, number: usize, value: usize) -> Refused {
+    holds.then_some((number, value))
+}
+
+pub fn vertices(n: usize) -> Refused {
+    when(n == 0 || n > 64, 1, 0)
+}
+
+pub fn slack(k: usize) -> Refused {
+    when(k == 0 || k > 32, 2, 0)
+}
+
+pub fn floor(k: usize, q: usize) -> Refused {
+    when(q < 2 * k - 1 || q > 64, 3, 0)
+}
+
+/// 4 and 5: of a table of 1 to 64 rows.
+pub fn edges(rows: &[u64]) -> Refused {
+    let n = rows.len();
+    let bad = (0..n).find(|&a| adjacent(rows, a, a) || (n..64).any(|b| adjacent(rows, a, b)));
+    if let Some(a) = bad {
+        return Some((4, a));
+    }
+    let one_way = (0..n).find(|&a| (0..n).any(|b| adjacent(rows, a, b) && !adjacent(rows, b, a)));
+    one_way.map(|a| (5, a))
+}
+
+fn reaches(s: u64, n: usize) -> bool {
+    (n..64).any(|v| s >> v & 1 == 1)
+}
+
+/// 1, 2, 4, 5, 7: of the calls that judge a set.
+pub fn judging(rows: &[u64], k: usize, s: u64) -> Refused {
+    vertices(rows.len()).or_else(|| slack(k)).or_else(|| edges(rows)).or_else(|| when(reaches(s, rows.len()), 7, 0))
+}
+
+/// 1, 2, 3, 4, 5: of the core, and of the list and of writing before their buffers are looked at.
+pub fn request(rows: &[u64], k: usize, q: usize) -> Refused {
+    vertices(rows.len()).or_else(|| slack(k)).or_else(|| floor(k, q)).or_else(|| edges(rows))
+}
+
+/// 1, 4, 5, 7: of the reach.
+pub fn reach(rows: &[u64], v: usize) -> Refused {
+    vertices(rows.len()).or_else(|| edges(rows)).or_else(|| when(v >= rows.len(), 7, 0))
+}
+
+/// 1, 2, 4, 5, 7, 10: of the bounds.
+pub fn bound(rows: &[u64], k: usize, s: u64, c: u64, v: usize) -> Refused {
+    let n = rows.len();
+    let outside = || when(reaches(s, n) || reaches(c, n) || v >= n, 7, 0);
+    let misplaced = || when(!is_plex(rows, k, s | 1 << v) || c >> v & 1 == 0 || s & c != 0, 10, 0);
+    vertices(n).or_else(|| slack(k)).or_else(|| edges(rows)).or_else(outside).or_else(misplaced)
+}

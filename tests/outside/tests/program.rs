@@ -1,0 +1,117 @@
+//! The program `kplexes`: sheets, damaged sheets and random bytes on its standard input, against what the rules of the sheet and of the list say.
+use outside::cases::{graph, many};
+use outside::instances::{self, Rng};
+use outside::{fp, text};
+use std::io::Write;
+use std::path::PathBuf;
+use std::process::{Command, Stdio};
+
+/// The built program, if there is one: KADVISK_PROGRAM, or where `rt check` writes it.
+fn program() -> Option<PathBuf> {
+    let built = PathBuf::from(env!("CARGO_MANIFEST_DIR")).join("../../target/bin/kplexes");
+    let path = std::env::var_os("KADVISK_PROGRAM").map(PathBuf::from).unwrap_or(built);
+    if path.exists() {
+        return Some(path);
+    }
+    println!("SKIPPED: no program at {}: build it by `rt check kplexes`, or name it in KADVISK_PROGRAM", path.display());
+    None
+}
+
+fn run(program: &PathBuf, input: &[u8]) -> Vec<u8> {
+    let mut child = Command::new(program).stdin(Stdio::piped()).stdout(Stdio::piped()).spawn().expect("the program starts");
+    // it may stop reading before the input ends
+    let _ = child.stdin.take().unwrap().write_all(input);
+    let output = child.wait_with_output().unwrap();
+    assert!(output.status.success(), "{:?}", output.status);
+    output.stdout
+}
+
+/// What the program owes: at most 1,096 bytes are looked at, and there are 4,096 slots.
+fn owed(input: &[u8]) -> Vec<u8> {
+    let refusal = |number: usize, value: usize| format!("R{number:02} {value:016X}\n").into_bytes();
+    let sheet = match text::read(&input[..input.len().min(1096)], 64) {
+        Ok(sheet) => sheet,
+        Err((number, value)) => return refusal(number, value),
+    };
+    let list = fp::list(&sheet.rows, sheet.slack, sheet.floor);
+    if list.len() > 4096 {
+        return refusal(6, list.len());
+    }
+    let lines: String = list.iter().map(|mask| format!("{mask:016X}\n")).collect();
+    format!("{:016X}\n{lines}", list.len()).into_bytes()
+}
+
+fn hold(program: &PathBuf, input: &[u8]) {
+    let (got, want) = (run(program, input), owed(input));
+    assert_eq!(String::from_utf8_lossy(&got), String::from_utf8_lossy(&want), "{:?}", String::from_utf8_lossy(input));
+}
+
+#[test]
+fn the_ring() {
+    let Some(program) = program() else { return };
+    let ring = text::write(&[0x12, 0x05, 0x0A, 0x14, 0x09], 2, 3);
+    assert_eq!(run(&program, &ring), b"0000000000000005\n0000000000000007\n000000000000000E\n0000000000000013\n0000000000000019\n000000000000001C\n");
+    assert_eq!(run(&program, b""), b"R08 0000000000000001\n");
+    hold(&program, &ring);
+}
+
+#[test]
+fn sheets() {
+    let Some(program) = program() else { return };
+    let mut rng = Rng(40);
+    for _ in 0..many(400) {
+        let (rows, k) = (graph(&mut rng, 1, 24), rng.between(1, 3));
+        hold(&program, &text::write(&rows, k, 2 * k - 1 + rng.below(8)));
+    }
+    hold(&program, &text::write(&instances::complete(64), 1, 64));
+    hold(&program, &text::write(&instances::complete(64), 32, 63));
+    hold(&program, &text::write(&instances::random(64, 0.3, 1), 2, 3));
+    hold(&program, &text::write(&instances::random(64, 0.2, 1), 1, 2));
+    // just as many masks as there are slots, and one plex more
+    let pairs = |n: usize| (0..n).map(|v| if v ^ 1 < n { 1u64 << (v ^ 1) } else { 0 }).collect::<Vec<u64>>();
+    hold(&program, &text::write(&pairs(64), 2, 3));
+    let parts = instances::multipartite(24, 2);
+    hold(&program, &text::write(&parts, 1, 12));
+    let mut joined = parts.clone();
+    joined.push(0);
+    hold(&program, &text::write(&joined, 1, 1));
+}
+
+#[test]
+fn damaged_sheets() {
+    let Some(program) = program() else { return };
+    let mut rng = Rng(41);
+    for _ in 0..many(1000) {
+        let mut sheet = text::write(&graph(&mut rng, 1, 10), 2, 3);
+        let at = rng.below(sheet.len());
+        match rng.below(4) {
+            0 => sheet.truncate(at),
+            1 => sheet[at] = rng.word() as u8,
+            2 => sheet.insert(at, b"0AF\n \r"[rng.below(6)]),
+            _ => sheet.extend(std::iter::repeat_n(b'\n', 1 + rng.below(1200))),
+        }
+        hold(&program, &sheet);
+    }
+    let longest = text::write(&instances::complete(64), 1, 64);
+    hold(&program, &[&longest[..], b"\n"].concat());
+    hold(&program, &[&longest[..], &[b'0'; 70_000][..]].concat());
+}
+
+#[test]
+fn random_bytes() {
+    let Some(program) = program() else { return };
+    let mut rng = Rng(42);
+    for case in 0..many(1000) {
+        let length = [rng.below(20), rng.below(1200), rng.below(5000)][case % 3];
+        let bytes: Vec<u8> = match rng.below(3) {
+            0 => (0..length).map(|_| rng.word() as u8).collect(),
+            1 => (0..length).map(|_| b"0123456789ABCDEF\n"[rng.below(17)]).collect(),
+            _ => format!("{:02X}0101\n", rng.below(66))
+                .into_bytes()
+                .into_iter()
+                .chain((0..length).map(|i| if i % 17 == 16 { 10 } else { 48 }))
+                .collect(),
+        };
+        hold(&program, &bytes);
+    }
+}

@@ -1,0 +1,182 @@
+//! Every refusal of every call, with its value, its place in the order, and the buffers it leaves.
+use kadvisk::ffi::Outcome;
+use outside::calls::*;
+use outside::cases::{damage, floor, graph, many, slack, subset};
+use outside::instances::Rng;
+use outside::refusals::{self, when, Refused};
+use outside::{plain, text};
+
+const GARBAGE: u64 = 0x0123_4567_89AB_CDEF;
+
+/// A table that is valid, wrong in some way, or of a length that is not accepted.
+fn table(rng: &mut Rng) -> Vec<u64> {
+    let mut rows = match rng.below(20) {
+        0 => vec![],
+        1 => vec![0; rng.between(65, 200)],
+        2 => (0..rng.between(1, 70)).map(|_| rng.word()).collect(),
+        _ => graph(rng, 1, 64),
+    };
+    if rng.chance(0.4) {
+        damage(rng, &mut rows);
+    }
+    rows
+}
+
+fn set(rng: &mut Rng, n: usize) -> u64 {
+    if rng.chance(0.2) {
+        rng.word()
+    } else {
+        subset(rng, n.min(64))
+    }
+}
+
+struct Tally([usize; 11]);
+
+impl Tally {
+    /// Holds an outcome to the refusal that is owed, or to what is found.
+    fn hold(&mut self, outcome: Outcome, owed: Refused, found: impl FnOnce() -> Outcome) {
+        self.0[owed.map_or(0, |(number, _)| number)] += 1;
+        assert_eq!(outcome, owed.map_or_else(found, refused));
+    }
+
+    fn all_of(&self, numbers: &[usize]) {
+        println!("outcomes by number: {:?}", self.0);
+        assert!((0..11).all(|number| (self.0[number] > 10) == numbers.contains(&number)), "{:?}", self.0);
+    }
+}
+
+#[test]
+fn judging() {
+    let (mut rng, mut tally) = (Rng(30), Tally([0; 11]));
+    for _ in 0..many(20_000) {
+        let (rows, k) = (table(&mut rng), slack(&mut rng));
+        let s = set(&mut rng, rows.len());
+        let owed = refusals::judging(&rows, k, s);
+        tally.hold(is_plex(&rows, k, s), owed, || success(0, plain::is_plex(&rows, k, s) as u64));
+        tally.hold(is_maximal(&rows, k, s), owed, || success(0, plain::is_maximal_by_one(&rows, k, s) as u64));
+    }
+    tally.all_of(&[0, 1, 2, 4, 5, 7]);
+}
+
+#[test]
+fn core_and_reach() {
+    let (mut rng, mut cores, mut reaches) = (Rng(31), Tally([0; 11]), Tally([0; 11]));
+    for _ in 0..many(20_000) {
+        let (rows, k) = (table(&mut rng), slack(&mut rng));
+        let q = floor(&mut rng, k);
+        cores.hold(core(&rows, k, q), refusals::request(&rows, k, q), || success(0, plain::core(&rows, q - k)));
+        let v = if rng.chance(0.1) { [rows.len(), 64, 65, usize::MAX][rng.below(4)] } else { rng.below(rows.len() + 1) };
+        reaches.hold(reach(&rows, v), refusals::reach(&rows, v), || success(0, plain::reach(&rows, v)));
+    }
+    cores.all_of(&[0, 1, 2, 3, 4, 5]);
+    reaches.all_of(&[0, 1, 4, 5, 7]);
+}
+
+#[test]
+fn bounds() {
+    let (mut rng, mut tally) = (Rng(32), Tally([0; 11]));
+    for _ in 0..many(20_000) {
+        let (rows, k) = (table(&mut rng), slack(&mut rng));
+        let (s, c) = (set(&mut rng, rows.len()) & set(&mut rng, rows.len()), set(&mut rng, rows.len()));
+        let c = if rng.chance(0.7) { c & !s } else { c };
+        let v = if rng.chance(0.1) { [rows.len(), 64, usize::MAX][rng.below(3)] } else { rng.below(rows.len() + 1) };
+        let owed = refusals::bound(&rows, k, s, c, v);
+        tally.hold(first_bound(&rows, k, s, c, v), owed, || success(0, plain::first_bound(&rows, k, s, c, v) as u64));
+        tally.hold(second_bound(&rows, k, s, c, v), owed, || success(0, plain::second_bound(&rows, k, s, c, v) as u64));
+    }
+    tally.all_of(&[0, 1, 2, 4, 5, 7, 10]);
+}
+
+#[test]
+fn lists() {
+    let (mut rng, mut tally) = (Rng(33), Tally([0; 11]));
+    for _ in 0..many(10_000) {
+        let (mut rows, k) = (table(&mut rng), slack(&mut rng));
+        rows.truncate(if rng.chance(0.9) { 24 } else { 200 });
+        if rng.chance(0.8) {
+            let n = rows.len();
+            rows.iter_mut().for_each(|row| *row &= (1u64 << n.min(63)) - 1);
+        }
+        let q = floor(&mut rng, k);
+        let owed = refusals::request(&rows, k, q);
+        if owed.is_none() && rows.len() > 24 {
+            continue;
+        }
+        let garbage: Vec<u64> = (0..rng.below(30)).map(|i| GARBAGE + i as u64).collect();
+        let mut slots = garbage.clone();
+        let outcome = list(&rows, k, q, &mut slots);
+        match owed {
+            Some(refusal) => {
+                tally.hold(outcome, Some(refusal), || unreachable!());
+                assert_eq!(slots, garbage, "refusals 1 to 5 leave the slots");
+            }
+            None => {
+                let want = outside::fp::list(&rows, k, q);
+                let m = want.len();
+                tally.hold(outcome, when(slots.len() < m, 6, m), || success(m, 0));
+                let after = if slots.len() < m { vec![0; slots.len()] } else { [&want[..], &garbage[m..]].concat() };
+                assert_eq!(slots, after);
+            }
+        }
+    }
+    tally.all_of(&[0, 1, 2, 3, 4, 5, 6]);
+}
+
+#[test]
+fn writing() {
+    let (mut rng, mut tally) = (Rng(34), Tally([0; 11]));
+    for _ in 0..many(10_000) {
+        let (rows, k) = (table(&mut rng), slack(&mut rng));
+        let q = floor(&mut rng, k);
+        let needed = 7 + 17 * rows.len();
+        let mut bytes = vec![0xC3; if rng.chance(0.5) { needed + rng.below(9) } else { rng.below(needed + 1) }];
+        let owed = refusals::request(&rows, k, q).or_else(|| when(bytes.len() < needed, 9, needed));
+        let room = bytes.len();
+        tally.hold(write_sheet(&rows, k, q, &mut bytes), owed, || success(needed, 0));
+        let written = if owed.is_some() { vec![] } else { text::write(&rows, k, q) };
+        assert_eq!(bytes[..written.len()], written);
+        assert_eq!(bytes[written.len()..], vec![0xC3; room - written.len()]);
+    }
+    tally.all_of(&[0, 1, 2, 3, 4, 5, 9]);
+}
+
+#[test]
+fn limits_of_slack_and_floor() {
+    let rows = outside::instances::complete(64);
+    let mut none: [u64; 0] = [];
+    for (k, q, number) in [
+        (32, 63, 6),
+        (32, 62, 3),
+        (33, 64, 2),
+        (33, 65, 2),
+        (0, 0, 2),
+        (1, 0, 3),
+        (1, 1, 6),
+        (1, 64, 6),
+        (1, 65, 3),
+        (32, 64, 6),
+        (5, 8, 3),
+        (5, 9, 6),
+        (usize::MAX, usize::MAX, 2),
+        (1, usize::MAX, 3),
+        (1usize << 63, 0, 2),
+    ] {
+        assert_eq!(list(&rows, k, q, &mut none), refused((number, (number == 6) as usize)), "k={k} q={q}");
+    }
+}
+
+#[test]
+fn the_order_of_causes() {
+    // all causes at once, then one after the other put right
+    let mut slots = [GARBAGE; 1];
+    let mut call = |rows: &[u64], k, q, want: Outcome| assert_eq!(list(rows, k, q, &mut slots), want);
+    call(&[0; 65], 33, 65, refused((1, 0)));
+    call(&[], 33, 65, refused((1, 0)));
+    call(&[3, 4, 0], 33, 65, refused((2, 0)));
+    call(&[3, 4, 0], 2, 65, refused((3, 0)));
+    call(&[2, 4, 8, 0], 2, 3, refused((5, 0)));
+    call(&[2, 5, 4, 0], 2, 3, refused((4, 2)));
+    call(&[2, 1, 8 | 16, 4], 2, 3, refused((4, 2)));
+    call(&[2, 1, 8, 0], 2, 3, refused((5, 2)));
+    call(&[2, 1, 8, 4], 1, 2, refused((6, 2)));
+}
