@@ -1,14 +1,10 @@
 -- `judging::judge_maximal` meets its contract: the checks decide first, and then the test.
 use mathlib.Core.Path.{sym, ap, _∙_}
 use borrow.Author.Needs.{needs}
-use denote.Ref.{now}
-use Rattle.sets.specs.Words.{mask, masks}
-use Rattle.judging.specs.Plex.{maximal}
 use Rattle.judging.specs.Refusal.{answered}
-use Rattle.judging.specs.Calls.{setCheck, maximalReply}
+use Rattle.judging.specs.Calls.{maximalReply}
 use Rattle.judging.specs.RefusalLaws.{set-checked}
 use Rattle.judging.specs.CallLaws.{check-failed, check-passed, none-holds}
-use borrow.Author.Needs.{needs}
 use Rattle.judging.proofs.judge_maximal.Statement.{statement}
 use Rattle.judging.proofs.judge_maximal.Tie as tie
 
@@ -20,25 +16,25 @@ enum-known-checked c = search needs
 
 returns : tie.Need-returns
 unfolding maximalReply
-returns c = check-failed (setCheck (masks (now (c .before .before .before .before .before .args .rows))) (c .before .before .before .before .before .args .slack) (mask (c .before .before .before .before .before .args .s))) (c .before .before .before .check-set .result) (c .before .before .before .check-set .ensures) (c .before .checked .given .0 .0) (answered 0 (maximal (masks (now (c .before .before .before .before .before .args .rows))) (c .before .before .before .before .before .args .slack) (mask (c .before .before .before .before .before .args .s)))) (c .before .checked .given .1)
+returns c = check-failed _ _ (c .before .before .before .check-set .ensures) _ _ (c .before .checked .given .1)
 
 enum-told : tie.Need-enum-told
 enum-told c = search needs
 
 is-maximal-requires : tie.Need-is-maximal-requires
-is-maximal-requires c κs = set-checked (masks (now (c .before .before .before .before .args .rows))) (c .before .before .before .before .args .slack) (mask (c .before .before .before .before .args .s)) (none-holds (setCheck (masks (now (c .before .before .before .before .args .rows))) (c .before .before .before .before .args .slack) (mask (c .before .before .before .before .args .s))) (c .before .before .check-set .result) (c .before .before .check-set .ensures) (c .enum-told .given .1))
+is-maximal-requires c κs = set-checked _ _ _ (none-holds _ _ (c .before .before .check-set .ensures) (c .enum-told .given .1))
 
 returns-2 : tie.Need-returns-2
 unfolding maximalReply
 returns-2 c =
     ap (answered 0) (sym (c .if1 .taken) ∙ c .before .is-maximal .ensures)
-    ∙ sym (check-passed (setCheck (masks (now (c .before .before .before .before .before .before .args .rows))) (c .before .before .before .before .before .before .args .slack) (mask (c .before .before .before .before .before .before .args .s))) (c .before .before .before .before .check-set .result) (c .before .before .before .before .check-set .ensures) (answered 0 (maximal (masks (now (c .before .before .before .before .before .before .args .rows))) (c .before .before .before .before .before .before .args .slack) (mask (c .before .before .before .before .before .before .args .s)))) (c .before .before .enum-told .given .1))
+    ∙ sym (check-passed _ _ (c .before .before .before .before .check-set .ensures) _ (c .before .before .enum-told .given .1))
 
 returns-3 : tie.Need-returns-3
 unfolding maximalReply
 returns-3 c =
     ap (answered 0) (sym (c .if1 .left) ∙ c .before .is-maximal .ensures)
-    ∙ sym (check-passed (setCheck (masks (now (c .before .before .before .before .before .before .args .rows))) (c .before .before .before .before .before .before .args .slack) (mask (c .before .before .before .before .before .before .args .s))) (c .before .before .before .before .check-set .result) (c .before .before .before .before .check-set .ensures) (answered 0 (maximal (masks (now (c .before .before .before .before .before .before .args .rows))) (c .before .before .before .before .before .before .args .slack) (mask (c .before .before .before .before .before .before .args .s)))) (c .before .before .enum-told .given .1))
+    ∙ sym (check-passed _ _ (c .before .before .before .before .check-set .ensures) _ (c .before .before .enum-told .given .1))
 
 pub judge-maximal-spec : {M : Type 1} → statement M
 judge-maximal-spec =

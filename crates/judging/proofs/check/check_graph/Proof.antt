@@ -1,9 +1,6 @@
 -- `judging::check::check_graph` meets its contract: one cause after the other.
 use mathlib.Core.Path.{sym, ap, _∙_}
-use denote.Ref.{now}
-use lib.ListN.{length}
-use Rattle.sets.specs.Words.{masks}
-use Rattle.judging.specs.Refusal.{outside, mostVertices, vertexCause, graphCauses}
+use Rattle.judging.specs.Refusal.{outside, mostVertices, vertexCause}
 use Rattle.judging.specs.Calls.{passed, graphCheck}
 use Rattle.judging.specs.RefusalLaws.{first-holds, first-skips, sized}
 use Rattle.judging.specs.CallLaws.{not-accepted, accepted}
@@ -19,14 +16,21 @@ vertices-accepted-requires c κs = search needs
 
 returns : tie.Need-returns
 unfolding graphCheck vertexCause
-returns c = sym (first-holds (vertexCause (length (masks (now (c .before .before .before .before .args .rows))))) (graphCauses (masks (now (c .before .before .before .before .args .rows)))) passed (ap (outside 1 mostVertices) (sym (c .before .before .count .ensures)) ∙ not-accepted (c .before .vertices-accepted .result) (outside 1 mostVertices (c .before .before .count .result)) (c .before .vertices-accepted .ensures) (c .if1 .taken)))
+returns c =
+    sym (first-holds _ _ passed
+    (ap (outside 1 mostVertices) (sym (c .before .before .count .ensures)) ∙ not-accepted _ _ (c .before .vertices-accepted .ensures) (c .if1 .taken)))
 
 check-edges-requires : tie.Need-check-edges-requires
-check-edges-requires c κs = sized (masks (now (c .before .before .before .before .args .rows))) (ap (outside 1 mostVertices) (sym (c .before .before .count .ensures)) ∙ accepted (c .before .vertices-accepted .result) (outside 1 mostVertices (c .before .before .count .result)) (c .before .vertices-accepted .ensures) (c .if1 .left))
+check-edges-requires c κs =
+    sized _ (ap (outside 1 mostVertices) (sym (c .before .before .count .ensures)) ∙ accepted _ _ (c .before .vertices-accepted .ensures) (c .if1 .left))
 
 returns-2 : tie.Need-returns-2
 unfolding graphCheck vertexCause
-returns-2 c = c .check-edges .ensures ∙ sym (first-skips (vertexCause (length (masks (now (c .before .before .before .before .before .args .rows))))) (graphCauses (masks (now (c .before .before .before .before .before .args .rows)))) passed (ap (outside 1 mostVertices) (sym (c .before .before .before .count .ensures)) ∙ accepted (c .before .before .vertices-accepted .result) (outside 1 mostVertices (c .before .before .before .count .result)) (c .before .before .vertices-accepted .ensures) (c .before .if1 .left)))
+returns-2 c =
+    let asked = c .before .before in
+    c .check-edges .ensures
+    ∙ sym (first-skips _ _ passed
+    (ap (outside 1 mostVertices) (sym (asked .before .count .ensures)) ∙ accepted _ _ (asked .vertices-accepted .ensures) (c .before .if1 .left)))
 
 pub check-graph-spec : {M : Type 1} → statement M
 check-graph-spec =

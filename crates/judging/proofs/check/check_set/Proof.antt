@@ -1,10 +1,7 @@
 -- `judging::check::check_set` meets its contract: the causes before it, and then the set.
-use Prim.Native.Nat.{ℕ, _^_}
 use native.Mathlib.Omega.{arith}
-use mathlib.Core.Path.{sym, ap, _∙_}
+use mathlib.Core.Path.{sym, _∙_}
 use mathlib.Core.List.{[], _∷_}
-use lib.Dec.{ltb}
-use denote.Ref.{now}
 use Rattle.sets.specs.Words.{mask, masks}
 use Rattle.judging.specs.Refusal.{firstOf, setCause}
 use Rattle.judging.specs.Calls.{passed, slackCheck, setCheck}
@@ -23,8 +20,8 @@ enum-known-checked c = search needs
 returns : tie.Need-returns
 unfolding setCheck
 returns c =
-    check-failed (slackCheck (masks (now (c .before .before .before .before .before .args .rows))) (c .before .before .before .before .before .args .slack)) (c .before .before .before .check-slack .result) (c .before .before .before .check-slack .ensures) (c .before .checked .given .0 .0) (firstOf (setCause (masks (now (c .before .before .before .before .before .args .rows))) (mask (c .before .before .before .before .before .args .s)) ∷ []) passed) (c .before .checked .given .1)
-    ∙ sym (first-append (slackCheck (masks (now (c .before .before .before .before .before .args .rows))) (c .before .before .before .before .before .args .slack)) (setCause (masks (now (c .before .before .before .before .before .args .rows))) (mask (c .before .before .before .before .before .args .s)) ∷ []) passed)
+    check-failed _ _ (c .before .before .before .check-slack .ensures) _ _ (c .before .checked .given .1)
+    ∙ sym (first-append _ _ passed)
 
 enum-told : tie.Need-enum-told
 enum-told c = search needs
@@ -34,24 +31,25 @@ count-requires c κs = search needs
 
 below-requires : tie.Need-below-requires
 below-requires c κs =
-    let z = graph-sized (masks (now (c .before .before .before .before .before .args .rows))) (slack-graph (masks (now (c .before .before .before .before .before .args .rows))) (c .before .before .before .before .before .args .slack) (none-holds (slackCheck (masks (now (c .before .before .before .before .before .args .rows))) (c .before .before .before .before .before .args .slack)) (c .before .before .before .check-slack .result) (c .before .before .before .check-slack .ensures) (c .before .enum-told .given .1))) in
-    (omega (arith, c .count .ensures, z .some), omega (arith, c .count .ensures, z .most))
+    let z = graph-sized _ (slack-graph _ _ (none-holds _ _ (c .before .before .before .check-slack .ensures) (c .before .enum-told .given .1))) in
+    (omega (arith, z .some), omega (arith, z .most))
 
 returns-2 : tie.Need-returns-2
 unfolding setCheck setCause
 returns-2 c =
-    sym (first-append (slackCheck (masks (now (c .before .before .before .before .before .before .before .args .rows))) (c .before .before .before .before .before .before .before .args .slack)) (setCause (masks (now (c .before .before .before .before .before .before .before .args .rows))) (mask (c .before .before .before .before .before .before .before .args .s)) ∷ []) passed
-    ∙ check-passed (slackCheck (masks (now (c .before .before .before .before .before .before .before .args .rows))) (c .before .before .before .before .before .before .before .args .slack)) (c .before .before .before .before .before .check-slack .result) (c .before .before .before .before .before .check-slack .ensures) (firstOf (setCause (masks (now (c .before .before .before .before .before .before .before .args .rows))) (mask (c .before .before .before .before .before .before .before .args .s)) ∷ []) passed) (c .before .before .before .enum-told .given .1)
-    ∙ first-holds (setCause (masks (now (c .before .before .before .before .before .before .before .args .rows))) (mask (c .before .before .before .before .before .before .before .args .s))) [] passed
-    (set-outside (masks (now (c .before .before .before .before .before .before .before .args .rows))) (mask (c .before .before .before .before .before .before .before .args .s)) (c .before .below .result) (c .before .below .ensures ∙ ap (λ (n : ℕ). ltb (mask (c .before .before .before .before .before .before .before .args .s)) (2 ^ n)) (c .before .before .count .ensures)) (c .if1 .taken)))
+    let checked = c .before .before .before .before .before in
+    sym (first-append _ _ passed
+    ∙ check-passed _ _ (checked .check-slack .ensures) _ (c .before .before .before .enum-told .given .1)
+    ∙ first-holds _ [] passed (set-outside (masks _) (mask _) _ (rw (c .before .before .count .ensures) at (c .before .below .ensures)) (c .if1 .taken)))
 
 returns-3 : tie.Need-returns-3
 unfolding setCheck firstOf
 returns-3 c =
-    sym (first-append (slackCheck (masks (now (c .before .before .before .before .before .before .before .args .rows))) (c .before .before .before .before .before .before .before .args .slack)) (setCause (masks (now (c .before .before .before .before .before .before .before .args .rows))) (mask (c .before .before .before .before .before .before .before .args .s)) ∷ []) passed
-    ∙ check-passed (slackCheck (masks (now (c .before .before .before .before .before .before .before .args .rows))) (c .before .before .before .before .before .before .before .args .slack)) (c .before .before .before .before .before .check-slack .result) (c .before .before .before .before .before .check-slack .ensures) (firstOf (setCause (masks (now (c .before .before .before .before .before .before .before .args .rows))) (mask (c .before .before .before .before .before .before .before .args .s)) ∷ []) passed) (c .before .before .before .enum-told .given .1)
-    ∙ first-skips (setCause (masks (now (c .before .before .before .before .before .before .before .args .rows))) (mask (c .before .before .before .before .before .before .before .args .s))) [] passed
-    (set-inside (masks (now (c .before .before .before .before .before .before .before .args .rows))) (mask (c .before .before .before .before .before .before .before .args .s)) (c .before .below .result) (c .before .below .ensures ∙ ap (λ (n : ℕ). ltb (mask (c .before .before .before .before .before .before .before .args .s)) (2 ^ n)) (c .before .before .count .ensures)) (c .if1 .left)))
+    let checked = c .before .before .before .before .before in
+    sym (first-append (slackCheck _ _) (setCause _ _ ∷ []) passed
+    ∙ check-passed (slackCheck _ _) _ (checked .check-slack .ensures) _ (c .before .before .before .enum-told .given .1)
+    ∙ first-skips (setCause _ _) [] passed
+    (set-inside (masks _) (mask _) _ (rw (c .before .before .count .ensures) at (c .before .below .ensures)) (c .if1 .left)))
 
 pub check-set-spec : {M : Type 1} → statement M
 check-set-spec =

@@ -1,10 +1,6 @@
 -- `judging::check::check_slack` meets its contract: one cause after the other.
 use mathlib.Core.Path.{sym, ap, _∙_}
-use mathlib.Core.List.{_∷_}
-use denote.Ref.{now}
-use lib.ListN.{length}
-use Rattle.sets.specs.Words.{masks}
-use Rattle.judging.specs.Refusal.{outside, mostVertices, mostSlack, vertexCause, slackCause, graphCauses}
+use Rattle.judging.specs.Refusal.{outside, mostVertices, vertexCause, slackCause}
 use Rattle.judging.specs.Calls.{passed, slackCheck}
 use Rattle.judging.specs.RefusalLaws.{first-holds, first-skips, sized}
 use Rattle.judging.specs.CallLaws.{not-accepted, accepted}
@@ -20,7 +16,9 @@ vertices-accepted-requires c κs = search needs
 
 returns : tie.Need-returns
 unfolding slackCheck vertexCause slackCause
-returns c = sym (first-holds (vertexCause (length (masks (now (c .before .before .before .before .args .rows))))) (slackCause (c .before .before .before .before .args .slack) ∷ graphCauses (masks (now (c .before .before .before .before .args .rows)))) passed (ap (outside 1 mostVertices) (sym (c .before .before .count .ensures)) ∙ not-accepted (c .before .vertices-accepted .result) (outside 1 mostVertices (c .before .before .count .result)) (c .before .vertices-accepted .ensures) (c .if1 .taken)))
+returns c =
+    sym (first-holds _ _ passed
+    (ap (outside 1 mostVertices) (sym (c .before .before .count .ensures)) ∙ not-accepted _ _ (c .before .vertices-accepted .ensures) (c .if1 .taken)))
 
 slack-accepted-requires : tie.Need-slack-accepted-requires
 slack-accepted-requires c κs = search needs
@@ -28,18 +26,26 @@ slack-accepted-requires c κs = search needs
 returns-2 : tie.Need-returns-2
 unfolding slackCheck vertexCause slackCause
 returns-2 c =
-    sym (first-skips (vertexCause (length (masks (now (c .before .before .before .before .before .before .args .rows))))) (slackCause (c .before .before .before .before .before .before .args .slack) ∷ graphCauses (masks (now (c .before .before .before .before .before .before .args .rows)))) passed (ap (outside 1 mostVertices) (sym (c .before .before .before .before .count .ensures)) ∙ accepted (c .before .before .before .vertices-accepted .result) (outside 1 mostVertices (c .before .before .before .before .count .result)) (c .before .before .before .vertices-accepted .ensures) (c .before .before .if1 .left))
-    ∙ first-holds (slackCause (c .before .before .before .before .before .before .args .slack)) (graphCauses (masks (now (c .before .before .before .before .before .before .args .rows)))) passed (not-accepted (c .before .slack-accepted .result) (outside 1 mostSlack (c .before .before .before .before .before .before .args .slack)) (c .before .slack-accepted .ensures) (c .if2 .taken)))
+    let asked = c .before .before .before in
+    sym (first-skips _ _ passed
+    (ap (outside 1 mostVertices) (sym (asked .before .count .ensures)) ∙ accepted _ _ (asked .vertices-accepted .ensures) (c .before .before .if1 .left))
+    ∙ first-holds _ _ passed (not-accepted _ _ (c .before .slack-accepted .ensures) (c .if2 .taken)))
 
 check-edges-requires : tie.Need-check-edges-requires
-check-edges-requires c κs = sized (masks (now (c .before .before .before .before .before .before .args .rows))) (ap (outside 1 mostVertices) (sym (c .before .before .before .before .count .ensures)) ∙ accepted (c .before .before .before .vertices-accepted .result) (outside 1 mostVertices (c .before .before .before .before .count .result)) (c .before .before .before .vertices-accepted .ensures) (c .before .before .if1 .left))
+check-edges-requires c κs =
+    let asked = c .before .before .before in
+    sized _
+    (ap (outside 1 mostVertices) (sym (asked .before .count .ensures)) ∙ accepted _ _ (asked .vertices-accepted .ensures) (c .before .before .if1 .left))
 
 returns-3 : tie.Need-returns-3
 unfolding slackCheck vertexCause slackCause
 returns-3 c =
+    let asked = c .before .before .before .before in
     c .check-edges .ensures
-    ∙ sym (first-skips (vertexCause (length (masks (now (c .before .before .before .before .before .before .before .args .rows))))) (slackCause (c .before .before .before .before .before .before .before .args .slack) ∷ graphCauses (masks (now (c .before .before .before .before .before .before .before .args .rows)))) passed (ap (outside 1 mostVertices) (sym (c .before .before .before .before .before .count .ensures)) ∙ accepted (c .before .before .before .before .vertices-accepted .result) (outside 1 mostVertices (c .before .before .before .before .before .count .result)) (c .before .before .before .before .vertices-accepted .ensures) (c .before .before .before .if1 .left))
-    ∙ first-skips (slackCause (c .before .before .before .before .before .before .before .args .slack)) (graphCauses (masks (now (c .before .before .before .before .before .before .before .args .rows)))) passed (accepted (c .before .before .slack-accepted .result) (outside 1 mostSlack (c .before .before .before .before .before .before .before .args .slack)) (c .before .before .slack-accepted .ensures) (c .before .if2 .left)))
+    ∙ sym (first-skips _ _ passed
+    (ap (outside 1 mostVertices) (sym (asked .before .count .ensures))
+    ∙ accepted _ _ (asked .vertices-accepted .ensures) (c .before .before .before .if1 .left))
+    ∙ first-skips _ _ passed (accepted _ _ (c .before .before .slack-accepted .ensures) (c .before .if2 .left)))
 
 pub check-slack-spec : {M : Type 1} → statement M
 check-slack-spec =

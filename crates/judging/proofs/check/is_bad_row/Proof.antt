@@ -1,10 +1,5 @@
 -- `judging::check::is_bad_row` meets its contract: the two halves of the test, one after the other.
-use Prim.Native.Nat.{ℕ, _^_}
-use mathlib.Core.Path.{sym, ap, ap₂, _∙_}
-use lib.Dec.{ltb}
-use denote.Ref.{now}
-use Rattle.sets.specs.Set.{has}
-use Rattle.sets.specs.Words.{masks}
+use mathlib.Core.Path.{sym, _∙_}
 use Rattle.judging.specs.JudgeLaws.{own-bit, reaches}
 use borrow.Author.Needs.{needs}
 use Rattle.judging.proofs.check.is_bad_row.Statement.{statement}
@@ -23,12 +18,14 @@ below-requires : tie.Need-below-requires
 below-requires c κs = search needs
 
 returns : tie.Need-returns
-returns c = c .if1 .taken ∙ sym (own-bit (masks (now (c .before .before .before .before .args .rows))) (c .before .before .before .before .args .a) (ap (λ (s : ℕ). has s (c .before .before .before .before .args .a)) (sym (c .before .before .get .ensures)) ∙ sym (c .before .has .ensures) ∙ c .if1 .taken))
+returns c =
+    c .if1 .taken ∙ sym (own-bit _ _ (rw (c .before .before .get .ensures) at (sym (c .before .has .ensures) ∙ c .if1 .taken)))
 
 returns-2 : tie.Need-returns-2
 returns-2 c =
-    reaches (masks (now (c .before .before .before .before .before .before .args .rows))) (c .before .before .before .before .before .before .args .a) (c .below .result) (ap (λ (s : ℕ). has s (c .before .before .before .before .before .before .args .a)) (sym (c .before .before .before .before .get .ensures)) ∙ sym (c .before .before .before .has .ensures) ∙ c .before .before .if1 .left)
-    (c .below .ensures ∙ ap₂ (λ (s n : ℕ). ltb s (2 ^ n)) (c .before .before .before .before .get .ensures) (c .before .count .ensures))
+    let tested = c .before .before .before in
+    reaches _ _ _ (rw (tested .before .get .ensures) at (sym (tested .has .ensures) ∙ c .before .before .if1 .left))
+    (rw (tested .before .get .ensures, c .before .count .ensures) at (c .below .ensures))
 
 pub is-bad-row-spec : {M : Type 1} → statement M
 is-bad-row-spec =

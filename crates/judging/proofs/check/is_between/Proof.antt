@@ -6,10 +6,10 @@ use Rattle.judging.proofs.check.is_between.Statement.{statement}
 use Rattle.judging.proofs.check.is_between.Tie as tie
 
 returns : tie.Need-returns
-returns c = above-low (c .before .args .lo) (c .before .args .hi) (c .before .args .n) (c .if1 .taken)
+returns c = above-low _ _ _ (c .if1 .taken)
 
 returns-2 : tie.Need-returns-2
-returns-2 c = lt-leb (c .before .args .lo) (c .before .args .n) (c .if1 .left) ∙ below-low (c .before .args .lo) (c .before .args .hi) (c .before .args .n) (c .if1 .left)
+returns-2 c = lt-leb _ _ (c .if1 .left) ∙ below-low _ _ _ (c .if1 .left)
 
 pub is-between-spec : {M : Type 1} → statement M
 is-between-spec = tie.close (tie.spec returns returns-2)

@@ -4,7 +4,6 @@ use native.Mathlib.Omega.{arith}
 use mathlib.Core.Path.{_≡_, sym, _∙_}
 use mathlib.Core.Bool.{false}
 use borrow.Author.Count.{below-none, below-more}
-use denote.Ref.{now}
 use lib.ListN.{length}
 use Rattle.sets.specs.Words.{masks}
 use Rattle.sets.specs.RangeLaws.{first-at}
@@ -19,30 +18,32 @@ abbrev μ-loop : tie.MeasureT-loop
 μ-loop rows a₀ a = length (masks rows) - a
 
 loop-holds : tie.Need-loop-holds Inv-loop μ-loop
-loop-holds c = (omega arith, below-none (λ (w : ℕ). badRow (masks (now (c .before .args .rows))) w ≡ false))
+loop-holds c = (omega arith, below-none _)
 
 count-requires : tie.Need-count-requires Inv-loop μ-loop
 count-requires c κs = tt
 
 is-bad-row-requires : tie.Need-is-bad-row-requires Inv-loop μ-loop
-is-bad-row-requires c κs = (c .before .before .before .before .pre, omega (arith, c .if1 .taken, c .before .count .ensures))
+is-bad-row-requires c κs = (c .before .before .before .before .pre, omega arith)
 
 returns : tie.Need-returns Inv-loop μ-loop
 unfolding lowestRow
-returns c = sym (first-at (badRow (masks (now (c .before .before .before .before .before .before .args .rows)))) (length (masks (now (c .before .before .before .before .before .before .args .rows)))) (c .before .before .before .before .loop .a) (c .before .before .before .before .loop .inv .0) (c .before .before .before .before .loop .inv .1) (λ _. sym (c .before .is-bad-row .ensures) ∙ c .if2 .taken))
+returns c =
+    let passed = c .before .before .before .before .loop .inv in
+    sym (first-at _ _ _ (passed .0) (passed .1) (λ _. sym (c .before .is-bad-row .ensures) ∙ c .if2 .taken))
 
 add-a : tie.Need-add-a Inv-loop μ-loop
-add-a c = omega (arith, c .before .before .if1 .taken, c .before .before .before .count .ensures, c .before .before .before .before .before .before .pre .most)
+add-a c = omega arith
 
 loop-less : tie.Need-loop-less Inv-loop μ-loop
-loop-less c = omega (arith, c .before .before .if1 .taken, c .before .before .before .count .ensures)
+loop-less c = omega arith
 
 loop-again : tie.Need-loop-again Inv-loop μ-loop
-loop-again c = (omega (arith, c .before .before .if1 .taken, c .before .before .before .count .ensures), below-more (λ (w : ℕ). badRow (masks (now (c .before .before .before .before .before .before .args .rows))) w ≡ false) (c .before .before .before .before .loop .a) (c .before .before .before .before .loop .inv .1) (sym (c .before .is-bad-row .ensures) ∙ c .if2 .left))
+loop-again c = (omega arith, below-more _ _ (c .before .before .before .before .loop .inv .1) (sym (c .before .is-bad-row .ensures) ∙ c .if2 .left))
 
 returns-2 : tie.Need-returns-2 Inv-loop μ-loop
 unfolding lowestRow
-returns-2 c = sym (first-at (badRow (masks (now (c .before .before .before .before .args .rows)))) (length (masks (now (c .before .before .before .before .args .rows)))) (c .before .before .loop .a) (c .before .before .loop .inv .0) (c .before .before .loop .inv .1) (λ l. absurd (omega (arith, c .if1 .left, c .before .count .ensures))))
+returns-2 c = sym (first-at _ _ _ (c .before .before .loop .inv .0) (c .before .before .loop .inv .1) (λ l. absurd (omega arith)))
 
 pub lowest-bad-row-spec : {M : Type 1} → statement M
 lowest-bad-row-spec =

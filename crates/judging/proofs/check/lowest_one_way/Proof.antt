@@ -1,11 +1,10 @@
 -- `judging::check::lowest_one_way` meets its contract: no row passed has a one-way link, and in the present row each vertex passed is answered.
 use Prim.Native.Nat.{ℕ, _-_, _≤_, _<_}
 use native.Mathlib.Omega.{arith}
-use mathlib.Core.Path.{_≡_, sym, ap, subst, _∙_}
+use mathlib.Core.Path.{_≡_, sym, subst, _∙_}
 use mathlib.Core.Bool.{true, false}
 use borrow.Author.Count.{below-none, below-more}
 use borrow.Author.Tests.{not-true, not-false}
-use denote.Ref.{now}
 use lib.ListN.{length}
 use Rattle.sets.specs.Set.{has}
 use Rattle.sets.specs.Graph.{row}
@@ -33,63 +32,69 @@ count-requires : tie.Need-count-requires Inv-loop μ-loop Inv-rows μ-rows
 count-requires c κs = tt
 
 rows-holds : tie.Need-rows-holds Inv-loop μ-loop Inv-rows μ-rows
-rows-holds c = (omega arith, below-none (λ (w : ℕ). oneWay (masks (now (c .before .before .args .rows))) w ≡ false))
+rows-holds c = (omega arith, below-none _)
 
 get-requires : tie.Need-get-requires Inv-loop μ-loop Inv-rows μ-rows
-get-requires c κs = omega (arith, c .rows-test .taken, c .before .before .count .ensures)
+get-requires c κs = omega arith
 
 loop-holds : tie.Need-loop-holds Inv-loop μ-loop Inv-rows μ-rows
-loop-holds c = subst (Walked (λ (b : ℕ). has (row (masks (now (c .before .before .before .before .before .args .rows))) b) (c .before .before .rows .a) ≡ true) (row (masks (now (c .before .before .before .before .before .args .rows))) (c .before .before .rows .a))) (sym (c .get .ensures)) (walk-none (λ (b : ℕ). has (row (masks (now (c .before .before .before .before .before .args .rows))) b) (c .before .before .rows .a) ≡ true) (row (masks (now (c .before .before .before .before .before .args .rows))) (c .before .before .rows .a)))
+loop-holds c = subst (Walked _ _) (sym (c .get .ensures)) (walk-none _ _)
 
 is-empty-requires : tie.Need-is-empty-requires Inv-loop μ-loop Inv-rows μ-rows
 is-empty-requires c κs = tt
 
 lowest-requires : tie.Need-lowest-requires Inv-loop μ-loop Inv-rows μ-rows
-lowest-requires c κs = walk-goes-on (c .before .is-empty .result) (mask (c .before .before .loop .left)) (c .before .is-empty .ensures) (c .if1 .taken)
+lowest-requires c κs = walk-goes-on _ _ (c .before .is-empty .ensures) (c .if1 .taken)
 
 get-requires-2 : tie.Need-get-requires-2 Inv-loop μ-loop Inv-rows μ-rows
-get-requires-2 c κs = walk-below (length (masks (now (c .before .before .before .before .before .before .before .before .before .args .rows)))) (row (masks (now (c .before .before .before .before .before .before .before .before .before .args .rows))) (c .before .before .before .before .before .before .rows .a)) (mask (c .before .before .before .loop .left)) (c .lowest .result) (c .before .before .before .before .before .before .before .before .before .pre .low (c .before .before .before .before .before .before .rows .a) (omega (arith, c .before .before .before .before .before .rows-test .taken, c .before .before .before .before .before .before .before .count .ensures))) (c .before .before .before .loop .inv .part) (c .lowest .ensures)
+get-requires-2 c κs =
+    let start = c .before .before .before .before .before .before .before .before .before in
+    walk-below _ _ _ _ (start .pre .low _ (omega arith)) (c .before .before .before .loop .inv .part) (c .lowest .ensures)
 
 has-requires : tie.Need-has-requires Inv-loop μ-loop Inv-rows μ-rows
-has-requires c κs = omega (arith, c .before .before .before .before .before .before .rows-test .taken, c .before .before .before .before .before .before .before .before .count .ensures, c .before .before .before .before .before .before .before .before .before .before .pre .most)
+has-requires c κs = omega arith
 
 rest-requires : tie.Need-rest-requires Inv-loop μ-loop Inv-rows μ-rows
 rest-requires c κs = c .before .before .before .lowest .ensures
 
 loop-less : tie.Need-loop-less Inv-loop μ-loop Inv-rows μ-rows
-loop-less c = walk-falls (mask (c .before .before .before .before .before .before .before .loop .left)) (c .before .before .before .before .lowest .result) (mask (c .rest .result)) (c .before .before .before .before .lowest .ensures) (c .rest .ensures)
+loop-less c = walk-falls _ _ _ (c .before .before .before .before .lowest .ensures) (c .rest .ensures)
 
 loop-again : tie.Need-loop-again Inv-loop μ-loop Inv-rows μ-rows
 loop-again c =
-    walk-next (λ (b : ℕ). has (row (masks (now (c .before .before .before .before .before .before .before .before .before .before .before .before .before .args .rows))) b) (c .before .before .before .before .before .before .before .before .before .before .rows .a) ≡ true) (row (masks (now (c .before .before .before .before .before .before .before .before .before .before .before .before .before .args .rows))) (c .before .before .before .before .before .before .before .before .before .before .rows .a)) (mask (c .before .before .before .before .before .before .before .loop .left)) (c .before .before .before .before .lowest .result) (mask (c .rest .result)) (c .rest .ensures) (c .before .before .before .before .before .before .before .loop .inv)
-    (ap (λ (s : ℕ). has s (c .before .before .before .before .before .before .before .before .before .before .rows .a)) (sym (c .before .before .before .get2 .ensures)) ∙ sym (c .before .before .has .ensures) ∙ not-false (c .before .before .has .result) (c .before .if2 .left))
+    let found = c .before .before .before in
+    walk-next _ _ _ _ _ (c .rest .ensures) (found .before .before .before .before .loop .inv)
+    (rw (found .get2 .ensures) at (sym (c .before .before .has .ensures) ∙ not-false _ (c .before .if2 .left)))
 
 add-a : tie.Need-add-a Inv-loop μ-loop Inv-rows μ-rows
-add-a c = omega (arith, c .before .before .before .before .rows-test .taken, c .before .before .before .before .before .before .count .ensures, c .before .before .before .before .before .before .before .before .pre .most)
+add-a c = omega arith
 
 rows-less : tie.Need-rows-less Inv-loop μ-loop Inv-rows μ-rows
-rows-less c = omega (arith, c .before .before .before .before .rows-test .taken, c .before .before .before .before .before .before .count .ensures)
+rows-less c = omega arith
 
 rows-again : tie.Need-rows-again Inv-loop μ-loop Inv-rows μ-rows
 rows-again c = (
-  omega (arith, c .before .before .before .before .rows-test .taken, c .before .before .before .before .before .before .count .ensures),
-  below-more (λ (w : ℕ). oneWay (masks (now (c .before .before .before .before .before .before .before .before .args .rows))) w ≡ false) (c .before .before .before .before .before .rows .a) (c .before .before .before .before .before .rows .inv .1)
-      (one-way-none (masks (now (c .before .before .before .before .before .before .before .before .args .rows))) (c .before .before .before .before .before .rows .a)
-      (walk-all (λ (b : ℕ). has (row (masks (now (c .before .before .before .before .before .before .before .before .args .rows))) b) (c .before .before .before .before .before .rows .a) ≡ true) (row (masks (now (c .before .before .before .before .before .before .before .before .args .rows))) (c .before .before .before .before .before .rows .a)) (mask (c .before .before .loop .left)) (walk-over (c .before .is-empty .result) (mask (c .before .before .loop .left)) (c .before .is-empty .ensures) (c .if1 .left)) (c .before .before .loop .inv))),
+  omega arith,
+  below-more _ _ (c .before .before .before .before .before .rows .inv .1)
+      (one-way-none _ _
+      (walk-all _ _ _ (walk-over _ _ (c .before .is-empty .ensures) (c .if1 .left)) (c .before .before .loop .inv))),
 )
 
 returns : tie.Need-returns Inv-loop μ-loop Inv-rows μ-rows
 unfolding lowestRow
-returns c = sym (first-at (oneWay (masks (now (c .before .before .before .before .args .rows)))) (length (masks (now (c .before .before .before .before .args .rows)))) (c .before .rows .a) (c .before .rows .inv .0) (c .before .rows .inv .1) (λ l. absurd (omega (arith, c .rows-test .left, c .before .before .count .ensures))))
+returns c = sym (first-at _ _ _ (c .before .rows .inv .0) (c .before .rows .inv .1) (λ l. absurd (omega arith)))
 
 returns-2 : tie.Need-returns-2 Inv-loop μ-loop Inv-rows μ-rows
 unfolding lowestRow
 returns-2 c =
-    sym (first-at (oneWay (masks (now (c .before .before .before .before .before .before .before .before .before .before .before .before .args .rows)))) (length (masks (now (c .before .before .before .before .before .before .before .before .before .before .before .before .args .rows)))) (c .before .before .before .before .before .before .before .before .before .rows .a) (c .before .before .before .before .before .before .before .before .before .rows .inv .0) (c .before .before .before .before .before .before .before .before .before .rows .inv .1) (λ l.
-    one-way-found (masks (now (c .before .before .before .before .before .before .before .before .before .before .before .before .args .rows))) (c .before .before .before .before .before .before .before .before .before .rows .a) (c .before .before .before .lowest .result)
-    (walk-below (length (masks (now (c .before .before .before .before .before .before .before .before .before .before .before .before .args .rows)))) (row (masks (now (c .before .before .before .before .before .before .before .before .before .before .before .before .args .rows))) (c .before .before .before .before .before .before .before .before .before .rows .a)) (mask (c .before .before .before .before .before .before .loop .left)) (c .before .before .before .lowest .result) (c .before .before .before .before .before .before .before .before .before .before .before .before .pre .low (c .before .before .before .before .before .before .before .before .before .rows .a) l) (c .before .before .before .before .before .before .loop .inv .part) (c .before .before .before .lowest .ensures))
-    (walk-member (row (masks (now (c .before .before .before .before .before .before .before .before .before .before .before .before .args .rows))) (c .before .before .before .before .before .before .before .before .before .rows .a)) (mask (c .before .before .before .before .before .before .loop .left)) (c .before .before .before .lowest .result) (c .before .before .before .before .before .before .loop .inv .part) (c .before .before .before .lowest .ensures))
-    (ap (λ (s : ℕ). has s (c .before .before .before .before .before .before .before .before .before .rows .a)) (sym (c .before .before .get2 .ensures)) ∙ sym (c .before .has .ensures) ∙ not-true (c .before .has .result) (c .if2 .taken))))
+    let found = c .before .before in
+    let turn = found .before .before .before .before in
+    let outer = turn .before .before .before in
+    sym (first-at _ _ _ (outer .rows .inv .0) (outer .rows .inv .1) (λ l.
+    one-way-found _ _ _
+    (walk-below _ _ _ _ (outer .before .before .before .pre .low _ l) (turn .loop .inv .part) (found .before .lowest .ensures))
+    (walk-member _ _ _ (turn .loop .inv .part) (found .before .lowest .ensures))
+    (rw (found .get2 .ensures) at (sym (c .before .has .ensures) ∙ not-true _ (c .if2 .taken)))))
 
 pub lowest-one-way-spec : {M : Type 1} → statement M
 lowest-one-way-spec =

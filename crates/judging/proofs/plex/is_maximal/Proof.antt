@@ -2,10 +2,7 @@
 use mathlib.Core.Path.{sym, ap, _∙_}
 use mathlib.Core.Bool.{not}
 use borrow.Author.Tests.{not-true, not-false}
-use denote.Ref.{now}
-use Rattle.sets.specs.Words.{mask, masks}
 use Rattle.sets.specs.RangeLaws.{true-holds}
-use Rattle.judging.specs.Plex.{plex}
 use Rattle.judging.specs.PlexLaws.{plex-holds}
 use Rattle.judging.specs.SwallowLaws.{maximal-by-swallow}
 use Rattle.judging.specs.JudgeLaws.{no-plex}
@@ -17,7 +14,7 @@ is-plex-requires : tie.Need-is-plex-requires
 is-plex-requires c κs = search needs
 
 returns : tie.Need-returns
-returns c = no-plex (masks (now (c .before .before .before .args .rows))) (c .before .before .before .args .k) (mask (c .before .before .before .args .s)) (sym (c .before .is-plex .ensures) ∙ not-true (c .before .is-plex .result) (c .if1 .taken))
+returns c = no-plex _ _ _ (sym (c .before .is-plex .ensures) ∙ not-true _ (c .if1 .taken))
 
 unblocked-requires : tie.Need-unblocked-requires
 unblocked-requires c κs = search needs
@@ -28,8 +25,8 @@ is-swallowed-requires c κs = search needs
 returns-2 : tie.Need-returns-2
 returns-2 c =
     ap not (c .is-swallowed .ensures)
-    ∙ maximal-by-swallow (masks (now (c .before .before .before .before .before .args .rows))) (c .before .before .before .before .before .args .k) (mask (c .before .before .before .before .before .args .s)) (c .before .before .before .before .before .pre .valid) (c .before .before .before .before .before .pre .inside .below)
-    (plex-holds (masks (now (c .before .before .before .before .before .args .rows))) (c .before .before .before .before .before .args .k) (mask (c .before .before .before .before .before .args .s)) (true-holds (plex (masks (now (c .before .before .before .before .before .args .rows))) (c .before .before .before .before .before .args .k) (mask (c .before .before .before .before .before .args .s))) (sym (c .before .before .before .is-plex .ensures) ∙ not-false (c .before .before .before .is-plex .result) (c .before .before .if1 .left))))
+    ∙ maximal-by-swallow _ _ _ (c .before .before .before .before .before .pre .valid) (c .before .before .before .before .before .pre .inside .below)
+    (plex-holds _ _ _ (true-holds _ (sym (c .before .before .before .is-plex .ensures) ∙ not-false _ (c .before .before .if1 .left))))
 
 pub is-maximal-spec : {M : Type 1} → statement M
 is-maximal-spec =

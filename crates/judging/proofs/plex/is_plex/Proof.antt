@@ -1,8 +1,6 @@
 -- `judging::plex::is_plex` meets its contract: the members passed miss at most k, and the first that misses more decides.
 use Prim.Native.Nat.{ℕ, _≤_}
 use native.Mathlib.Omega.{arith}
-use denote.Ref.{now}
-use lib.ListN.{length}
 use Rattle.sets.specs.Words.{mask, masks}
 use Rattle.sets.specs.WalkLaws.{Walked, walk-none, walk-next, walk-all, walk-falls, walk-member, walk-below, walk-goes-on, walk-over}
 use Rattle.judging.specs.Graph.{missing}
@@ -17,39 +15,40 @@ abbrev μ-loop : tie.MeasureT-loop
 μ-loop rows k s left₀ left = mask left
 
 loop-holds : tie.Need-loop-holds Inv-loop μ-loop
-loop-holds c = walk-none (λ (v : ℕ). missing (masks (now (c .before .args .rows))) (mask (c .before .args .s)) v ≤ c .before .args .k) (mask (c .before .args .s))
+loop-holds c = walk-none _ _
 
 is-empty-requires : tie.Need-is-empty-requires Inv-loop μ-loop
 is-empty-requires c κs = tt
 
 lowest-requires : tie.Need-lowest-requires Inv-loop μ-loop
-lowest-requires c κs = walk-goes-on (c .before .is-empty .result) (mask (c .before .before .loop .left)) (c .before .is-empty .ensures) (c .if1 .taken)
+lowest-requires c κs = walk-goes-on _ _ (c .before .is-empty .ensures) (c .if1 .taken)
 
 missing-requires : tie.Need-missing-requires Inv-loop μ-loop
-missing-requires c κs = walk-below (length (masks (now (c .before .before .before .before .before .args .rows)))) (mask (c .before .before .before .before .before .args .s)) (mask (c .before .before .before .loop .left)) (c .lowest .result) (c .before .before .before .before .before .pre .below) (c .before .before .before .loop .inv .part) (c .lowest .ensures)
+missing-requires c κs =
+    let turn = c .before .before .before in
+    walk-below _ _ _ _ (turn .before .before .pre .below) (turn .loop .inv .part) (c .lowest .ensures)
 
 returns : tie.Need-returns Inv-loop μ-loop
 returns c =
-    plex-fails (masks (now (c .before .before .before .before .before .before .before .args .rows))) (c .before .before .before .before .before .before .before .args .k) (mask (c .before .before .before .before .before .before .before .args .s)) (c .before .before .lowest .result)
-    (walk-below (length (masks (now (c .before .before .before .before .before .before .before .args .rows)))) (mask (c .before .before .before .before .before .before .before .args .s)) (mask (c .before .before .before .before .before .loop .left)) (c .before .before .lowest .result) (c .before .before .before .before .before .before .before .pre .below) (c .before .before .before .before .before .loop .inv .part) (c .before .before .lowest .ensures))
-    (walk-member (mask (c .before .before .before .before .before .before .before .args .s)) (mask (c .before .before .before .before .before .loop .left)) (c .before .before .lowest .result) (c .before .before .before .before .before .loop .inv .part) (c .before .before .lowest .ensures))
-    (omega (arith, c .if2 .taken, c .before .missing .ensures .0))
+    let turn = c .before .before .before .before .before in
+    plex-fails _ _ _ _ (walk-below _ _ _ _ (turn .before .before .pre .below) (turn .loop .inv .part) (c .before .before .lowest .ensures))
+    (walk-member _ _ _ (turn .loop .inv .part) (c .before .before .lowest .ensures)) (omega arith)
 
 rest-requires : tie.Need-rest-requires Inv-loop μ-loop
 rest-requires c κs = c .before .before .lowest .ensures
 
 loop-less : tie.Need-loop-less Inv-loop μ-loop
-loop-less c = walk-falls (mask (c .before .before .before .before .before .before .loop .left)) (c .before .before .before .lowest .result) (mask (c .rest .result)) (c .before .before .before .lowest .ensures) (c .rest .ensures)
+loop-less c = walk-falls _ _ _ (c .before .before .before .lowest .ensures) (c .rest .ensures)
 
 loop-again : tie.Need-loop-again Inv-loop μ-loop
 loop-again c =
-    walk-next (λ (v : ℕ). missing (masks (now (c .before .before .before .before .before .before .before .before .args .rows))) (mask (c .before .before .before .before .before .before .before .before .args .s)) v ≤ (c .before .before .before .before .before .before .before .before .args .k)) (mask (c .before .before .before .before .before .before .before .before .args .s)) (mask (c .before .before .before .before .before .before .loop .left)) (c .before .before .before .lowest .result) (mask (c .rest .result)) (c .rest .ensures)
-    (c .before .before .before .before .before .before .loop .inv) (omega (arith, c .before .if2 .left, c .before .before .missing .ensures .0))
+    walk-next _ _ _ _ _ (c .rest .ensures)
+    (c .before .before .before .before .before .before .loop .inv) (omega arith)
 
 returns-2 : tie.Need-returns-2 Inv-loop μ-loop
 returns-2 c =
-    plex-passes (masks (now (c .before .before .before .before .args .rows))) (c .before .before .before .before .args .k) (mask (c .before .before .before .before .args .s))
-    (walk-all (λ (v : ℕ). missing (masks (now (c .before .before .before .before .args .rows))) (mask (c .before .before .before .before .args .s)) v ≤ (c .before .before .before .before .args .k)) (mask (c .before .before .before .before .args .s)) (mask (c .before .before .loop .left)) (walk-over (c .before .is-empty .result) (mask (c .before .before .loop .left)) (c .before .is-empty .ensures) (c .if1 .left)) (c .before .before .loop .inv))
+    plex-passes _ _ _
+    (walk-all _ _ _ (walk-over _ _ (c .before .is-empty .ensures) (c .if1 .left)) (c .before .before .loop .inv))
 
 pub is-plex-spec : {M : Type 1} → statement M
 is-plex-spec =

@@ -1,7 +1,6 @@
 -- `judging::plex::missing` meets its contract: the size of what is left of s without the neighbours of v.
 use mathlib.Core.Path.{ap, _∙_}
 use Rattle.sets.specs.Set.{size, minus}
-use Rattle.sets.specs.Words.{mask}
 use Rattle.judging.specs.Graph.{missing}
 use borrow.Author.Needs.{needs}
 use Rattle.judging.proofs.plex.missing.Statement.{statement}
@@ -18,7 +17,7 @@ size-requires c κs = search needs
 
 returns : tie.Need-returns
 unfolding missing
-returns c = (c .size .ensures .0 ∙ ap size (c .before .minus .ensures ∙ ap (minus (mask (c .before .before .before .before .args .s))) (c .before .before .get .ensures)), c .size .ensures .1)
+returns c = (c .size .ensures .0 ∙ ap size (c .before .minus .ensures ∙ ap (minus _) (c .before .before .get .ensures)), c .size .ensures .1)
 
 pub missing-spec : {M : Type 1} → statement M
 missing-spec = tie.close (tie.spec get-requires minus-requires size-requires returns)

@@ -1,11 +1,7 @@
 -- `judging::plex::unblocked` meets its contract: what is open after some members is outside s, and adjacent to those of them that miss k or more.
-use Prim.Native.Nat.{ℕ}
 use native.Mathlib.Omega.{arith}
-use mathlib.Core.Path.{sym, ap, subst, _∙_}
+use mathlib.Core.Path.{ap, _∙_}
 use lib.Bits.{bitAnd}
-use denote.Ref.{now}
-use lib.ListN.{length}
-use Rattle.sets.specs.Set.{minus, full}
 use Rattle.sets.specs.Words.{mask, masks}
 use Rattle.sets.specs.WalkLaws.{walk-falls, walk-member, walk-below, walk-goes-on, walk-over}
 use Rattle.judging.specs.JudgeLaws.{Opened, opened-none, opened-same, opened-meet, opened-all}
@@ -22,53 +18,56 @@ count-requires : tie.Need-count-requires Inv-loop μ-loop
 count-requires c κs = tt
 
 full-requires : tie.Need-full-requires Inv-loop μ-loop
-full-requires c κs = (omega (arith, c .count .ensures, c .before .before .pre .some), omega (arith, c .count .ensures, c .before .before .pre .most))
+full-requires c κs = (omega arith, omega arith)
 
 minus-requires : tie.Need-minus-requires Inv-loop μ-loop
 minus-requires c κs = tt
 
 loop-holds : tie.Need-loop-holds Inv-loop μ-loop
-loop-holds c =
-    subst (Opened (masks (now (c .before .before .before .before .args .rows))) (c .before .before .before .before .args .k) (mask (c .before .before .before .before .args .s)) (mask (c .before .before .before .before .args .s))) (sym (c .minus .ensures ∙ ap (λ (f : ℕ). minus f (mask (c .before .before .before .before .args .s))) (c .before .full .ensures ∙ ap full (c .before .before .count .ensures))))
-    (opened-none (masks (now (c .before .before .before .before .args .rows))) (c .before .before .before .before .args .k) (mask (c .before .before .before .before .args .s)))
+loop-holds c = rw (c .minus .ensures, c .before .full .ensures, c .before .before .count .ensures) (opened-none _ _ _)
 
 is-empty-requires : tie.Need-is-empty-requires Inv-loop μ-loop
 is-empty-requires c κs = tt
 
 lowest-requires : tie.Need-lowest-requires Inv-loop μ-loop
-lowest-requires c κs = walk-goes-on (c .before .is-empty .result) (mask (c .before .before .loop .left)) (c .before .is-empty .ensures) (c .if1 .taken)
+lowest-requires c κs = walk-goes-on _ _ (c .before .is-empty .ensures) (c .if1 .taken)
 
 rest-requires : tie.Need-rest-requires Inv-loop μ-loop
 rest-requires c κs = c .lowest .ensures
 
 missing-requires : tie.Need-missing-requires Inv-loop μ-loop
-missing-requires c κs = walk-below (length (masks (now (c .before .before .before .before .before .before .before .before .before .args .rows)))) (mask (c .before .before .before .before .before .before .before .before .before .args .s)) (mask (c .before .before .before .before .loop .left)) (c .before .lowest .result) (c .before .before .before .before .before .before .before .before .before .pre .below) (c .before .before .before .before .loop .inv .walked .part) (c .before .lowest .ensures)
+missing-requires c κs =
+    let turn = c .before .before .before .before in
+    walk-below _ _ _ _ (turn .before .before .before .before .before .pre .below) (turn .loop .inv .walked .part) (c .before .lowest .ensures)
 
 get-requires : tie.Need-get-requires Inv-loop μ-loop
-get-requires c κs = walk-below (length (masks (now (c .before .before .before .before .before .before .before .before .before .before .before .args .rows)))) (mask (c .before .before .before .before .before .before .before .before .before .before .before .args .s)) (mask (c .before .before .before .before .before .before .loop .left)) (c .before .before .before .lowest .result) (c .before .before .before .before .before .before .before .before .before .before .before .pre .below) (c .before .before .before .before .before .before .loop .inv .walked .part) (c .before .before .before .lowest .ensures)
+get-requires c κs =
+    let turn = c .before .before .before .before .before .before in
+    walk-below _ _ _ _ (turn .before .before .before .before .before .pre .below) (turn .loop .inv .walked .part) (c .before .before .before .lowest .ensures)
 
 meet-requires : tie.Need-meet-requires Inv-loop μ-loop
 meet-requires c κs = tt
 
 loop-less : tie.Need-loop-less Inv-loop μ-loop
-loop-less c = walk-falls (mask (c .before .before .before .before .before .before .before .before .loop .left)) (c .before .before .before .before .before .lowest .result) (mask (c .before .before .before .before .rest .result)) (c .before .before .before .before .before .lowest .ensures) (c .before .before .before .before .rest .ensures)
+loop-less c = walk-falls _ _ _ (c .before .before .before .before .before .lowest .ensures) (c .before .before .before .before .rest .ensures)
 
 loop-again : tie.Need-loop-again Inv-loop μ-loop
 loop-again c =
-    opened-meet (masks (now (c .before .before .before .before .before .before .before .before .before .before .before .before .before .args .rows))) (c .before .before .before .before .before .before .before .before .before .before .before .before .before .args .k) (mask (c .before .before .before .before .before .before .before .before .before .before .before .before .before .args .s)) (mask (c .before .before .before .before .before .before .before .before .loop .left)) (mask (c .before .before .before .before .before .before .before .before .loop .free)) (c .before .before .before .before .before .lowest .result) (mask (c .before .before .before .before .rest .result)) (mask (c .meet .result)) (c .before .before .before .before .rest .ensures)
-    (c .meet .ensures ∙ ap (bitAnd (mask (c .before .before .before .before .before .before .before .before .loop .free))) (c .before .get .ensures)) (c .before .before .before .before .before .before .before .before .loop .inv)
-    (walk-below (length (masks (now (c .before .before .before .before .before .before .before .before .before .before .before .before .before .args .rows)))) (mask (c .before .before .before .before .before .before .before .before .before .before .before .before .before .args .s)) (mask (c .before .before .before .before .before .before .before .before .loop .left)) (c .before .before .before .before .before .lowest .result) (c .before .before .before .before .before .before .before .before .before .before .before .before .before .pre .below) (c .before .before .before .before .before .before .before .before .loop .inv .walked .part) (c .before .before .before .before .before .lowest .ensures))
-    (walk-member (mask (c .before .before .before .before .before .before .before .before .before .before .before .before .before .args .s)) (mask (c .before .before .before .before .before .before .before .before .loop .left)) (c .before .before .before .before .before .lowest .result) (c .before .before .before .before .before .before .before .before .loop .inv .walked .part) (c .before .before .before .before .before .lowest .ensures))
-    (omega (arith, c .before .before .if2 .taken, c .before .before .before .missing .ensures .0))
+    let lowest = c .before .before .before .before .before in
+    let turn = lowest .before .before .before in
+    opened-meet _ _ _ _ _ _ _ _ (c .before .before .before .before .rest .ensures)
+    (c .meet .ensures ∙ ap (bitAnd (mask _)) (c .before .get .ensures)) (turn .loop .inv)
+    (walk-below _ _ _ _ (turn .before .before .before .before .before .pre .below) (turn .loop .inv .walked .part) (lowest .lowest .ensures))
+    (walk-member _ _ _ (turn .loop .inv .walked .part) (lowest .lowest .ensures)) (omega arith)
 
 loop-less-2 : tie.Need-loop-less-2 Inv-loop μ-loop
-loop-less-2 c = walk-falls (mask (c .before .before .before .before .before .before .loop .left)) (c .before .before .before .lowest .result) (mask (c .before .before .rest .result)) (c .before .before .before .lowest .ensures) (c .before .before .rest .ensures)
+loop-less-2 c = walk-falls _ _ _ (c .before .before .before .lowest .ensures) (c .before .before .rest .ensures)
 
 loop-again-2 : tie.Need-loop-again-2 Inv-loop μ-loop
-loop-again-2 c = opened-same (masks (now (c .before .before .before .before .before .before .before .before .before .before .before .args .rows))) (c .before .before .before .before .before .before .before .before .before .before .before .args .k) (mask (c .before .before .before .before .before .before .before .before .before .before .before .args .s)) (mask (c .before .before .before .before .before .before .loop .left)) (mask (c .before .before .before .before .before .before .loop .free)) (c .before .before .before .lowest .result) (mask (c .before .before .rest .result)) (c .before .before .rest .ensures) (c .before .before .before .before .before .before .loop .inv) (omega (arith, c .if2 .left, c .before .missing .ensures .0))
+loop-again-2 c = opened-same _ _ _ _ _ _ _ (c .before .before .rest .ensures) (c .before .before .before .before .before .before .loop .inv) (omega arith)
 
 returns : tie.Need-returns Inv-loop μ-loop
-returns c = opened-all (masks (now (c .before .before .before .before .before .before .before .args .rows))) (c .before .before .before .before .before .before .before .args .k) (mask (c .before .before .before .before .before .before .before .args .s)) (mask (c .before .before .loop .left)) (mask (c .before .before .loop .free)) (walk-over (c .before .is-empty .result) (mask (c .before .before .loop .left)) (c .before .is-empty .ensures) (c .if1 .left)) (c .before .before .loop .inv)
+returns c = opened-all _ _ _ _ _ (walk-over _ _ (c .before .is-empty .ensures) (c .if1 .left)) (c .before .before .loop .inv)
 
 pub unblocked-spec : {M : Type 1} → statement M
 unblocked-spec =

@@ -1,8 +1,6 @@
 -- `search::choice::among` meets its contract.
 use mathlib.Core.Path.{sym, ap, _∙_}
-use denote.Ref.{now}
 use Rattle.sets.specs.Set.{minus}
-use Rattle.sets.specs.Words.{mask, masks}
 use Rattle.search.specs.Choice.{among-itself, among-far}
 use borrow.Author.Needs.{needs}
 use Rattle.search.proofs.choice.among.Statement.{statement}
@@ -15,7 +13,7 @@ single-requires : tie.Need-single-requires
 single-requires c κs = search needs
 
 returns : tie.Need-returns
-returns c = among-itself (masks (now (c .before .before .before .before .args .rows))) (mask (c .before .before .before .before .args .c)) (c .before .before .before .before .args .w) (mask (c .single .result)) (c .single .ensures) (sym (c .before .before .has .ensures) ∙ c .before .if1 .taken)
+returns c = among-itself _ _ _ _ (c .single .ensures) (sym (c .before .before .has .ensures) ∙ c .before .if1 .taken)
 
 get-requires : tie.Need-get-requires
 get-requires c κs = search needs
@@ -24,7 +22,9 @@ minus-requires : tie.Need-minus-requires
 minus-requires c κs = search needs
 
 returns-2 : tie.Need-returns-2
-returns-2 c = among-far (masks (now (c .before .before .before .before .before .args .rows))) (mask (c .before .before .before .before .before .args .c)) (c .before .before .before .before .before .args .w) (mask (c .minus .result)) (c .minus .ensures ∙ ap (minus (mask (c .before .before .before .before .before .args .c))) (c .before .get .ensures)) (sym (c .before .before .before .has .ensures) ∙ c .before .before .if1 .left)
+returns-2 c =
+    among-far _ _ _ _ (c .minus .ensures ∙ ap (minus _) (c .before .get .ensures))
+    (sym (c .before .before .before .has .ensures) ∙ c .before .before .if1 .left)
 
 pub among-spec : {M : Type 1} → statement M
 among-spec =

@@ -1,7 +1,5 @@
 -- `search::choice::pick` meets its contract: the best so far is always a member.
-use denote.Ref.{now}
-use lib.ListN.{length}
-use Rattle.sets.specs.Words.{mask, masks}
+use Rattle.sets.specs.Words.{mask}
 use Rattle.sets.specs.SubsetLaws.{sub-refl}
 use Rattle.sets.specs.WalkLaws.{walk-falls, walk-member, walk-below, walk-goes-on}
 use Rattle.search.specs.Choice.{Picking, picking-next}
@@ -18,31 +16,38 @@ lowest-requires : tie.Need-lowest-requires Inv-loop μ-loop
 lowest-requires c κs = c .before .pre .some
 
 loop-holds : tie.Need-loop-holds Inv-loop μ-loop
-loop-holds c = record { member = c .lowest .ensures .member; part = sub-refl (mask (c .before .before .args .s)) }
+loop-holds c = record { member = c .lowest .ensures .member; part = sub-refl _ }
 
 is-empty-requires : tie.Need-is-empty-requires Inv-loop μ-loop
 is-empty-requires c κs = tt
 
 lowest-requires-2 : tie.Need-lowest-requires-2 Inv-loop μ-loop
-lowest-requires-2 c κs = walk-goes-on (c .before .is-empty .result) (mask (c .before .before .loop .left)) (c .before .is-empty .ensures) (c .if1 .taken)
+lowest-requires-2 c κs = walk-goes-on _ _ (c .before .is-empty .ensures) (c .if1 .taken)
 
 rest-requires : tie.Need-rest-requires Inv-loop μ-loop
 rest-requires c κs = c .lowest2 .ensures
 
 missing-requires : tie.Need-missing-requires Inv-loop μ-loop
-missing-requires c κs = walk-below (length (masks (now (c .before .before .before .before .before .before .before .args .rows)))) (mask (c .before .before .before .before .before .before .before .args .s)) (mask (c .before .before .before .before .loop .left)) (c .before .lowest2 .result) (c .before .before .before .before .before .before .before .pre .below) (c .before .before .before .before .loop .inv .part) (c .before .lowest2 .ensures)
+missing-requires c κs =
+    let turn = c .before .before .before .before in
+    walk-below _ _ _ _ (turn .before .before .before .pre .below) (turn .loop .inv .part) (c .before .lowest2 .ensures)
 
 loop-less : tie.Need-loop-less Inv-loop μ-loop
-loop-less c = walk-falls (mask (c .before .before .before .before .before .before .loop .left)) (c .before .before .before .lowest2 .result) (mask (c .before .before .rest .result)) (c .before .before .before .lowest2 .ensures) (c .before .before .rest .ensures)
+loop-less c = walk-falls _ _ _ (c .before .before .before .lowest2 .ensures) (c .before .before .rest .ensures)
 
 loop-again : tie.Need-loop-again Inv-loop μ-loop
-loop-again c = picking-next (mask (c .before .before .before .before .before .before .before .before .before .args .s)) (mask (c .before .before .before .before .before .before .loop .left)) (c .before .before .before .lowest2 .result) (mask (c .before .before .rest .result)) (c .before .before .before .lowest2 .result) (c .before .before .rest .ensures) (c .before .before .before .before .before .before .loop .inv .part) (walk-member (mask (c .before .before .before .before .before .before .before .before .before .args .s)) (mask (c .before .before .before .before .before .before .loop .left)) (c .before .before .before .lowest2 .result) (c .before .before .before .before .before .before .loop .inv .part) (c .before .before .before .lowest2 .ensures))
+loop-again c =
+    let turn = c .before .before .before .before .before .before in
+    picking-next _ _ _ _ _ (c .before .before .rest .ensures) (turn .loop .inv .part)
+    (walk-member _ _ _ (turn .loop .inv .part) (c .before .before .before .lowest2 .ensures))
 
 loop-less-2 : tie.Need-loop-less-2 Inv-loop μ-loop
-loop-less-2 c = walk-falls (mask (c .before .before .before .before .before .before .loop .left)) (c .before .before .before .lowest2 .result) (mask (c .before .before .rest .result)) (c .before .before .before .lowest2 .ensures) (c .before .before .rest .ensures)
+loop-less-2 c = walk-falls _ _ _ (c .before .before .before .lowest2 .ensures) (c .before .before .rest .ensures)
 
 loop-again-2 : tie.Need-loop-again-2 Inv-loop μ-loop
-loop-again-2 c = picking-next (mask (c .before .before .before .before .before .before .before .before .before .args .s)) (mask (c .before .before .before .before .before .before .loop .left)) (c .before .before .before .lowest2 .result) (mask (c .before .before .rest .result)) (c .before .before .before .before .before .before .loop .best) (c .before .before .rest .ensures) (c .before .before .before .before .before .before .loop .inv .part) (c .before .before .before .before .before .before .loop .inv .member)
+loop-again-2 c =
+    let turn = c .before .before .before .before .before .before in
+    picking-next _ _ _ _ _ (c .before .before .rest .ensures) (turn .loop .inv .part) (turn .loop .inv .member)
 
 returns : tie.Need-returns Inv-loop μ-loop
 returns c = c .before .before .loop .inv .member

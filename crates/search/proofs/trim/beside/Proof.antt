@@ -8,25 +8,38 @@ use Rattle.search.proofs.trim.beside.Statement.{statement}
 use Rattle.search.proofs.trim.beside.Tie as tie
 
 with-requires : tie.Need-with-requires
-with-requires c κs = omega (arith, joinable-vertex _ _ _ _ _ (c .before .before .pre), c .before .before .pre .most)
+with-requires c κs = omega (arith, joinable-vertex _ _ _ _ _ (c .before .before .pre))
 
 without-requires : tie.Need-without-requires
-without-requires c κs = omega (arith, joinable-vertex _ _ _ _ _ (c .before .before .before .pre), c .before .before .before .pre .most)
+without-requires c κs = omega (arith, joinable-vertex _ _ _ _ _ (c .before .before .before .pre))
 
 get-requires : tie.Need-get-requires
-get-requires c κs = omega (arith, joinable-vertex _ _ _ _ _ (c .before .before .before .before .pre), c .before .before .before .before .pre .long)
+get-requires c κs = omega (arith, joinable-vertex _ _ _ _ _ (c .before .before .before .before .pre))
 
 meet-requires : tie.Need-meet-requires
 meet-requires c κs = search needs
 
 drop-blocked-requires : tie.Need-drop-blocked-requires
-drop-blocked-requires c κs = near-trimmable _ _ _ _ _ (c .before .before .before .before .before .before .pre) _ _ (c .before .before .before .with .ensures) (c .meet .ensures ∙ ap₂ bitAnd (c .before .before .without .ensures) (c .before .get .ensures))
+drop-blocked-requires c κs =
+    let joined = c .before .before .before in
+    near-trimmable _ _ _ _ _ (joined .before .before .before .pre) _ _ (joined .with .ensures)
+    (c .meet .ensures ∙ ap₂ bitAnd (c .before .before .without .ensures) (c .before .get .ensures))
 
 drop-dear-requires : tie.Need-drop-dear-requires
-drop-dear-requires c κs = still-trimmable _ _ _ _ _ _ (near-trimmable _ _ _ _ _ (c .before .before .before .before .before .before .before .pre) _ _ (c .before .before .before .before .with .ensures) (c .before .meet .ensures ∙ ap₂ bitAnd (c .before .before .before .without .ensures) (c .before .before .get .ensures))) (c .drop-blocked .ensures)
+drop-dear-requires c κs =
+    let met = c .before in
+    let joined = met .before .before .before in
+    still-trimmable _ _ _ _ _ _
+    (near-trimmable _ _ _ _ _ (joined .before .before .before .pre) _ _ (joined .with .ensures)
+    (met .meet .ensures ∙ ap₂ bitAnd (met .before .before .without .ensures) (met .before .get .ensures))) (c .drop-blocked .ensures)
 
 returns : tie.Need-returns
-returns c = beside-all _ _ _ _ _ (c .before .before .before .before .before .before .before .before .pre) _ _ (c .before .before .before .before .before .with .ensures) (c .before .before .meet .ensures ∙ ap₂ bitAnd (c .before .before .before .before .without .ensures) (c .before .before .before .get .ensures)) _ _ _ (c .before .drop-blocked .ensures) (c .drop-dear .ensures)
+returns c =
+    let met = c .before .before in
+    let joined = met .before .before .before in
+    beside-all _ _ _ _ _ (joined .before .before .before .pre) _ _ (joined .with .ensures)
+    (met .meet .ensures ∙ ap₂ bitAnd (met .before .before .without .ensures) (met .before .get .ensures))
+    _ _ _ (c .before .drop-blocked .ensures) (c .drop-dear .ensures)
 
 pub beside-spec : {M : Type 1} → statement M
 beside-spec =

@@ -1,12 +1,7 @@
 -- `search::trim::drop_blocked` meets its contract: what is dropped at each step is in no plex that holds s.
-use Prim.Native.Nat.{ℕ}
 use native.Mathlib.Omega.{arith}
-use mathlib.Core.Path.{sym, ap, subst, _∙_}
+use mathlib.Core.Path.{ap, _∙_}
 use lib.Bits.{bitAnd}
-use denote.Ref.{now}
-use lib.ListN.{length}
-use Rattle.sets.specs.Set.{minus}
-use Rattle.sets.specs.Graph.{row}
 use Rattle.sets.specs.Words.{mask, masks}
 use Rattle.sets.specs.SubsetLaws.{in-of-sub, minus-sub}
 use Rattle.sets.specs.SizeLaws.{minus-below}
@@ -28,46 +23,55 @@ minus-requires : tie.Need-minus-requires Inv-loop μ-loop
 minus-requires c κs = tt
 
 loop-holds : tie.Need-loop-holds Inv-loop μ-loop
-loop-holds c = subst (λ (l : ℕ). Blocking (masks (now (c .before .before .before .args .rows))) (c .before .before .before .args .k) (mask (c .before .before .before .args .s)) (c .before .before .before .args .v) (mask (c .before .before .before .args .c)) l (mask (c .before .before .before .args .c))) (sym (c .minus .ensures ∙ ap (minus (mask (c .before .before .before .args .s))) (c .before .get .ensures))) (blocking-none (masks (now (c .before .before .before .args .rows))) (c .before .before .before .args .k) (mask (c .before .before .before .args .s)) (c .before .before .before .args .v) (mask (c .before .before .before .args .c)) (c .before .before .before .pre))
+loop-holds c = rw (c .minus .ensures, c .before .get .ensures) (blocking-none _ _ _ _ _ (c .before .before .before .pre))
 
 is-empty-requires : tie.Need-is-empty-requires Inv-loop μ-loop
 is-empty-requires c κs = tt
 
 lowest-requires : tie.Need-lowest-requires Inv-loop μ-loop
-lowest-requires c κs = walk-goes-on (c .before .is-empty .result) (mask (c .before .before .loop .left)) (c .before .is-empty .ensures) (c .if1 .taken)
+lowest-requires c κs = walk-goes-on _ _ (c .before .is-empty .ensures) (c .if1 .taken)
 
 rest-requires : tie.Need-rest-requires Inv-loop μ-loop
 rest-requires c κs = c .lowest .ensures
 
 missing-requires : tie.Need-missing-requires Inv-loop μ-loop
-missing-requires c κs = walk-below (length (masks (now (c .before .before .before .before .before .before .before .before .args .rows)))) (minus (mask (c .before .before .before .before .before .before .before .before .args .s)) (row (masks (now (c .before .before .before .before .before .before .before .before .args .rows))) (c .before .before .before .before .before .before .before .before .args .v))) (mask (c .before .before .before .before .loop .left)) (c .before .lowest .result) (minus-below (length (masks (now (c .before .before .before .before .before .before .before .before .args .rows)))) (mask (c .before .before .before .before .before .before .before .before .args .s)) (row (masks (now (c .before .before .before .before .before .before .before .before .args .rows))) (c .before .before .before .before .before .before .before .before .args .v)) (c .before .before .before .before .before .before .before .before .pre .below)) (c .before .before .before .before .loop .inv .walked .part) (c .before .lowest .ensures)
+missing-requires c κs =
+    let turn = c .before .before .before .before in
+    walk-below _ _ _ _ (minus-below _ _ _ (turn .before .before .before .before .pre .below)) (turn .loop .inv .walked .part) (c .before .lowest .ensures)
 
 get-requires-2 : tie.Need-get-requires-2 Inv-loop μ-loop
-get-requires-2 c κs = walk-below (length (masks (now (c .before .before .before .before .before .before .before .before .before .before .args .rows)))) (minus (mask (c .before .before .before .before .before .before .before .before .before .before .args .s)) (row (masks (now (c .before .before .before .before .before .before .before .before .before .before .args .rows))) (c .before .before .before .before .before .before .before .before .before .before .args .v))) (mask (c .before .before .before .before .before .before .loop .left)) (c .before .before .before .lowest .result) (minus-below (length (masks (now (c .before .before .before .before .before .before .before .before .before .before .args .rows)))) (mask (c .before .before .before .before .before .before .before .before .before .before .args .s)) (row (masks (now (c .before .before .before .before .before .before .before .before .before .before .args .rows))) (c .before .before .before .before .before .before .before .before .before .before .args .v)) (c .before .before .before .before .before .before .before .before .before .before .pre .below)) (c .before .before .before .before .before .before .loop .inv .walked .part) (c .before .before .before .lowest .ensures)
+get-requires-2 c κs =
+    let lowest = c .before .before .before in
+    let turn = lowest .before .before .before in
+    walk-below _ _ _ _ (minus-below _ _ _ (turn .before .before .before .before .pre .below)) (turn .loop .inv .walked .part) (lowest .lowest .ensures)
 
 meet-requires : tie.Need-meet-requires Inv-loop μ-loop
 meet-requires c κs = tt
 
 loop-less : tie.Need-loop-less Inv-loop μ-loop
-loop-less c = walk-falls (mask (c .before .before .before .before .before .before .before .before .loop .left)) (c .before .before .before .before .before .lowest .result) (mask (c .before .before .before .before .rest .result)) (c .before .before .before .before .before .lowest .ensures) (c .before .before .before .before .rest .ensures)
+loop-less c = walk-falls _ _ _ (c .before .before .before .before .before .lowest .ensures) (c .before .before .before .before .rest .ensures)
 
 loop-again : tie.Need-loop-again Inv-loop μ-loop
 loop-again c =
-    blocking-meet (masks (now (c .before .before .before .before .before .before .before .before .before .before .before .before .args .rows))) (c .before .before .before .before .before .before .before .before .before .before .before .before .args .k) (mask (c .before .before .before .before .before .before .before .before .before .before .before .before .args .s)) (c .before .before .before .before .before .before .before .before .before .before .before .before .args .v) (mask (c .before .before .before .before .before .before .before .before .before .before .before .before .args .c)) (c .before .before .before .before .before .before .before .before .before .before .before .before .pre) (mask (c .before .before .before .before .before .before .before .before .loop .left)) (mask (c .before .before .before .before .before .before .before .before .loop .kept)) (c .before .before .before .before .before .lowest .result) (mask (c .before .before .before .before .rest .result)) (c .before .before .before .before .rest .ensures) (c .before .before .before .before .before .before .before .before .loop .inv)
-    (mask (c .meet .result)) (c .meet .ensures ∙ ap (bitAnd (mask (c .before .before .before .before .before .before .before .before .loop .kept))) (c .before .get2 .ensures)) (in-of-sub (minus (mask (c .before .before .before .before .before .before .before .before .before .before .before .before .args .s)) (row (masks (now (c .before .before .before .before .before .before .before .before .before .before .before .before .args .rows))) (c .before .before .before .before .before .before .before .before .before .before .before .before .args .v))) (mask (c .before .before .before .before .before .before .before .before .before .before .before .before .args .s)) (c .before .before .before .before .before .lowest .result) (minus-sub (mask (c .before .before .before .before .before .before .before .before .before .before .before .before .args .s)) (row (masks (now (c .before .before .before .before .before .before .before .before .before .before .before .before .args .rows))) (c .before .before .before .before .before .before .before .before .before .before .before .before .args .v))) (walk-member (minus (mask (c .before .before .before .before .before .before .before .before .before .before .before .before .args .s)) (row (masks (now (c .before .before .before .before .before .before .before .before .before .before .before .before .args .rows))) (c .before .before .before .before .before .before .before .before .before .before .before .before .args .v))) (mask (c .before .before .before .before .before .before .before .before .loop .left)) (c .before .before .before .before .before .lowest .result) (c .before .before .before .before .before .before .before .before .loop .inv .walked .part) (c .before .before .before .before .before .lowest .ensures))) (omega (arith, c .before .before .if2 .taken, c .before .before .before .missing .ensures .0))
+    let rest = c .before .before .before .before in
+    let turn = rest .before .before .before .before in
+    blocking-meet _ _ _ _ _ (turn .before .before .before .before .pre) _ _ _ _ (rest .rest .ensures) (turn .loop .inv)
+    _ (c .meet .ensures ∙ ap (bitAnd (mask _)) (c .before .get2 .ensures))
+    (in-of-sub _ _ _ (minus-sub _ _) (walk-member _ _ _ (turn .loop .inv .walked .part) (rest .before .lowest .ensures))) (omega arith)
 
 loop-less-2 : tie.Need-loop-less-2 Inv-loop μ-loop
-loop-less-2 c = walk-falls (mask (c .before .before .before .before .before .before .loop .left)) (c .before .before .before .lowest .result) (mask (c .before .before .rest .result)) (c .before .before .before .lowest .ensures) (c .before .before .rest .ensures)
+loop-less-2 c = walk-falls _ _ _ (c .before .before .before .lowest .ensures) (c .before .before .rest .ensures)
 
 loop-again-2 : tie.Need-loop-again-2 Inv-loop μ-loop
-loop-again-2 c = blocking-same (masks (now (c .before .before .before .before .before .before .before .before .before .before .args .rows))) (c .before .before .before .before .before .before .before .before .before .before .args .k) (mask (c .before .before .before .before .before .before .before .before .before .before .args .s)) (c .before .before .before .before .before .before .before .before .before .before .args .v) (mask (c .before .before .before .before .before .before .before .before .before .before .args .c)) (c .before .before .before .before .before .before .before .before .before .before .pre) (mask (c .before .before .before .before .before .before .loop .left)) (mask (c .before .before .before .before .before .before .loop .kept)) (c .before .before .before .lowest .result) (mask (c .before .before .rest .result)) (c .before .before .rest .ensures) (c .before .before .before .before .before .before .loop .inv) (omega (arith, c .if2 .left, c .before .missing .ensures .0))
+loop-again-2 c =
+    let turn = c .before .before .before .before .before .before in
+    blocking-same _ _ _ _ _ (turn .before .before .before .before .pre) _ _ _ _ (c .before .before .rest .ensures) (turn .loop .inv) (omega arith)
 
 returns : tie.Need-returns Inv-loop μ-loop
 returns c =
-    record {
-      kept = c .before .before .loop .inv .kept;
-      blocked = blocking-all (masks (now (c .before .before .before .before .before .before .args .rows))) (c .before .before .before .before .before .before .args .k) (mask (c .before .before .before .before .before .before .args .s)) (c .before .before .before .before .before .before .args .v) (mask (c .before .before .before .before .before .before .args .c)) (c .before .before .before .before .before .before .pre) (mask (c .before .before .loop .left)) (mask (c .before .before .loop .kept)) (walk-over (c .before .is-empty .result) (mask (c .before .before .loop .left)) (c .before .is-empty .ensures) (c .if1 .left)) (c .before .before .loop .inv);
-    }
+    let end = c .before .before in
+    let none = walk-over _ _ (c .before .is-empty .ensures) (c .if1 .left) in
+    record { kept = end .loop .inv .kept; blocked = blocking-all _ _ _ _ _ (end .before .before .before .before .pre) _ _ none (end .loop .inv) }
 
 pub drop-blocked-spec : {M : Type 1} → statement M
 drop-blocked-spec =
