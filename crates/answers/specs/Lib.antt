@@ -1,3 +1,4 @@
 -- What the program answers: definitions first, then their laws.
 pub mod Answer
 pub mod AnswerLaws
+pub mod Examples

@@ -27,28 +27,28 @@ fn decimal(x: usize) -> u8
 }
 
 // Writes each mask on a line.
-fn write_masks(sets: &[u64], out: &mut [u8])
-    requires { ⌜ length (masks (now sets)) * rowLength ≤ length (now out) ⌝ }
-    ensures { λ _. ⌜ now (out .exit) ≡ lines rowDigits (masks (now (sets .entry))) ++ drop (length (masks (now (sets .entry))) * rowLength) (now (out .entry)) ⌝ }
+fn write_masks(list: &[u64], out: &mut [u8])
+    requires { ⌜ length (masks (now list)) * rowLength ≤ length (now out) ⌝ }
+    ensures { λ _. ⌜ now (out .exit) ≡ lines rowDigits (masks (now (list .entry))) ++ drop (length (masks (now (list .entry))) * rowLength) (now (out .entry)) ⌝ }
 {
-    let m = sets::count(sets);
+    let m = sets::count(list);
     let mut i = 0;
     while i < m {
         let at = i * LINE_LENGTH;
         let end = at + LINE_LENGTH;
-        lines::write_line(&mut out[at..end], sets::get(sets, i));
+        lines::write_line(&mut out[at..end], sets::get(list, i));
         i += 1;
     }
 }
 
 // Writes the number of the masks on a line, and then each mask. Gives the length of what is written.
-pub fn write_list(sets: &[u64], out: &mut [u8]) -> usize
-    requires { ⌜ listLength (length (masks (now sets))) ≤ length (now out) ⌝ }
-    ensures { λ r. ⌜ Writes (listText (masks (now (sets .entry)))) (now (out .entry)) (now (out .exit)) r ⌝ }
+pub fn write_list(list: &[u64], out: &mut [u8]) -> usize
+    requires { ⌜ listLength (length (masks (now list))) ≤ length (now out) ⌝ }
+    ensures { λ r. ⌜ Writes (listText (masks (now (list .entry)))) (now (out .entry)) (now (out .exit)) r ⌝ }
 {
-    let m = sets::count(sets);
+    let m = sets::count(list);
     lines::write_line(&mut out[..LINE_LENGTH], m as u64);
-    write_masks(sets, &mut out[LINE_LENGTH..]);
+    write_masks(list, &mut out[LINE_LENGTH..]);
     (m + 1) * LINE_LENGTH
 }
 

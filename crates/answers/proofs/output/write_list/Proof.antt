@@ -49,7 +49,7 @@ returns c =
     let first = c .before .before .before .before .before .before .write-line in
     let rest = c .before .before .write-masks in
     let count = c .before .before .before .before .before .before .before .before .count in
-    list-written (count .result) (masks (now (s .args .sets))) (now (s .args .out)) _ (first .last .0) (rest .last .1 .0) (count .ensures) (omega arith) (first .ensures) refl (rest .ensures)
+    list-written (count .result) (masks (now (s .args .list))) (now (s .args .out)) _ (first .last .0) (rest .last .1 .0) (count .ensures) (omega arith) (first .ensures) refl (rest .ensures)
 
 pub write-list-spec : {M : Type 1} → statement M
 write-list-spec =

@@ -15,10 +15,10 @@ use Rattle.answers.proofs.output.write_masks.Statement.{statement}
 use Rattle.answers.proofs.output.write_masks.Tie as tie
 
 abbrev Inv-loop : tie.InvT-loop
-Inv-loop sets out₀ m i₀ out i = (i ≤ m) × (m ≡ length (masks sets)) × (length out ≡ length out₀) × (out ≡ lines rowDigits (take i (masks sets)) ++ drop (i * rowLength) out₀)
+Inv-loop list out₀ m i₀ out i = (i ≤ m) × (m ≡ length (masks list)) × (length out ≡ length out₀) × (out ≡ lines rowDigits (take i (masks list)) ++ drop (i * rowLength) out₀)
 
 abbrev μ-loop : tie.MeasureT-loop
-μ-loop sets out₀ m i₀ out i = m - i
+μ-loop list out₀ m i₀ out i = m - i
 
 count-requires : tie.Need-count-requires Inv-loop μ-loop
 count-requires c κs = tt
@@ -26,7 +26,7 @@ count-requires c κs = tt
 loop-holds : tie.Need-loop-holds Inv-loop μ-loop
 loop-holds c =
     let a = c .before .before .before .args in
-    (omega arith, c .count .ensures, refl, write-start rowDigits (masks (now (a .sets))) (now (a .out)))
+    (omega arith, c .count .ensures, refl, write-start rowDigits (masks (now (a .list))) (now (a .out)))
 
 mul-at : tie.Need-mul-at Inv-loop μ-loop
 mul-at c = omega arith
@@ -67,7 +67,7 @@ loop-again c =
       omega arith,
       at .inv .1,
       same-len-mid (at .i * rowLength) ((at .i * rowLength + rowLength) - at .i * rowLength) (at .out) part (c .before .before .write-line .kept .0) ∙ at .inv .2,
-      write-more rowDigits (at .i) word (masks (now (s .args .sets))) (now (s .args .out)) (at .out) part (omega arith) (omega arith) (at .inv .3)
+      write-more rowDigits (at .i) word (masks (now (s .args .list))) (now (s .args .out)) (at .out) part (omega arith) (omega arith) (at .inv .3)
           (sym (mask-word word) ∙ c .before .before .before .get .ensures) (c .before .before .write-line .ensures),
     )
 
@@ -77,7 +77,7 @@ same-length c = c .before .loop .inv .2
 returns : tie.Need-returns Inv-loop μ-loop
 returns c =
     let s = c .before .before .before .before .before in
-    c .before .loop .inv .3 ∙ write-all rowDigits (c .before .loop .i) (masks (now (s .args .sets))) (now (s .args .out)) (omega arith)
+    c .before .loop .inv .3 ∙ write-all rowDigits (c .before .loop .i) (masks (now (s .args .list))) (now (s .args .out)) (omega arith)
 
 pub write-masks-spec : {M : Type 1} → statement M
 write-masks-spec =
