@@ -3,7 +3,8 @@
 //!
 //!   cargo run --release --offline --package bench
 //!
-//!   bench --only NAME     the rows of one graph
+//!   bench --part NAME     cuts, placing or growth alone
+//!   bench --only NAME     the rows of one graph in the table of cuts
 //!   bench --limit S       leave a run that takes more than S seconds (3)
 mod clock;
 mod rows;
@@ -55,8 +56,12 @@ fn measure_apart(row: usize, variant: usize, limit: Duration) -> Option<(usize, 
 
 /// One row of the table of cuts, and the ratio of each variant, if it was within the limit.
 fn cut_row(at: usize, row: &Row, limit: Duration) -> Vec<Option<f64>> {
-    let (m, all) = measure_apart(at, 0, limit).expect("all cuts are within the limit");
-    print!("| {} | {} | {} | {m} | {all:.2} |", row.name, row.k, row.q);
+    print!("| {} | {} | {} |", row.name, row.k, row.q);
+    let Some((m, all)) = measure_apart(at, 0, limit) else {
+        println!(" | > {} |{}", limit.as_millis(), " |".repeat(VARIANTS.len() - 1));
+        return vec![];
+    };
+    print!(" {m} | {all:.2} |");
     let mut ratios = vec![Some(1.0)];
     for (i, &variant) in VARIANTS.iter().enumerate().skip(1) {
         if matches!(variant, Variant::Cliques | Variant::PivotOff) && row.k != 1 {
@@ -170,9 +175,14 @@ fn main() {
         return;
     }
     let limit = Duration::from_secs(after("--limit").map_or(3, |s| s.parse().expect("seconds")));
-    cuts(after("--only"), limit);
-    if after("--only").is_none() {
+    let part = |name| after("--part").is_none_or(|part| part == name);
+    if part("cuts") {
+        cuts(after("--only"), limit);
+    }
+    if part("placing") && after("--only").is_none() {
         placing();
+    }
+    if part("growth") && after("--only").is_none() {
         growth();
     }
 }
