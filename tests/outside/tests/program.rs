@@ -6,15 +6,12 @@ use std::io::Write;
 use std::path::PathBuf;
 use std::process::{Command, Stdio};
 
-/// The built program, if there is one: KADVISK_PROGRAM, or where `rt check` writes it.
-fn program() -> Option<PathBuf> {
+/// The built program: KADVISK_PROGRAM, or where `rt check` writes it.
+fn program() -> PathBuf {
     let built = PathBuf::from(env!("CARGO_MANIFEST_DIR")).join("../../target/bin/kplexes");
     let path = std::env::var_os("KADVISK_PROGRAM").map(PathBuf::from).unwrap_or(built);
-    if path.exists() {
-        return Some(path);
-    }
-    println!("SKIPPED: no program at {}: build it by `rt check kplexes`, or name it in KADVISK_PROGRAM", path.display());
-    None
+    assert!(path.exists(), "no program at {}: build it by `rt check kplexes`, or name it in KADVISK_PROGRAM", path.display());
+    path
 }
 
 fn run(program: &PathBuf, input: &[u8]) -> Vec<u8> {
@@ -48,7 +45,7 @@ fn hold(program: &PathBuf, input: &[u8]) {
 
 #[test]
 fn the_ring() {
-    let Some(program) = program() else { return };
+    let program = program();
     let ring = text::write(&[0x12, 0x05, 0x0A, 0x14, 0x09], 2, 3);
     assert_eq!(run(&program, &ring), b"0000000000000005\n0000000000000007\n000000000000000E\n0000000000000013\n0000000000000019\n000000000000001C\n");
     assert_eq!(run(&program, b""), b"R08 0000000000000001\n");
@@ -57,7 +54,7 @@ fn the_ring() {
 
 #[test]
 fn sheets() {
-    let Some(program) = program() else { return };
+    let program = program();
     let mut rng = Rng(40);
     for _ in 0..many(400) {
         let (rows, k) = (graph(&mut rng, 1, 24), rng.between(1, 3));
@@ -79,7 +76,7 @@ fn sheets() {
 
 #[test]
 fn damaged_sheets() {
-    let Some(program) = program() else { return };
+    let program = program();
     let mut rng = Rng(41);
     for _ in 0..many(1000) {
         let mut sheet = text::write(&graph(&mut rng, 1, 10), 2, 3);
@@ -99,7 +96,7 @@ fn damaged_sheets() {
 
 #[test]
 fn random_bytes() {
-    let Some(program) = program() else { return };
+    let program = program();
     let mut rng = Rng(42);
     for case in 0..many(1000) {
         let length = [rng.below(20), rng.below(1200), rng.below(5000)][case % 3];
