@@ -5,6 +5,7 @@
 //!
 //!   bench --part NAME     cuts, placing or growth alone
 //!   bench --only NAME     the rows of one graph in the table of cuts
+//!   bench --rivals        the table of cuts with the independent implementations alone
 //!   bench --limit S       leave a run that takes more than S seconds (3)
 mod clock;
 mod rows;
@@ -22,25 +23,26 @@ fn median(mut times: Vec<f64>) -> f64 {
     times[times.len() / 2]
 }
 
-/// The count and the median time in ms: one run to warm up, then five, or as many as two seconds allow. A short run is repeated within each, for
-/// 5 ms together.
+/// The time of one run in ms. A short one is repeated, for 3 ms together; `first` is what it took before.
+fn once(first: f64, work: impl Fn() -> usize) -> f64 {
+    let repeats = (3.0 / first) as usize + 1;
+    clock::timed(|| (0..repeats).map(|_| std::hint::black_box(work())).max()).1 / repeats as f64
+}
+
+/// The count and the median time in ms: one run to warm up, then five, or as many as two seconds allow.
 fn measure(work: impl Fn() -> usize) -> (usize, f64) {
     let (count, first) = clock::timed(&work);
     let runs = ((2000.0 / first) as usize).clamp(1, 5);
-    let repeats = (5.0 / first) as usize + 1;
-    let run = || clock::timed(|| (0..repeats).map(|_| std::hint::black_box(work())).max()).1 / repeats as f64;
-    (count, median((0..runs).map(|_| run()).collect()))
+    (count, median((0..runs).map(|_| once(first, &work)).collect()))
 }
 
-/// Measures a variant in a process of its own, which is ended at the limit: none where it takes longer.
-fn measure_apart(row: usize, variant: usize, limit: Duration) -> Option<(usize, f64)> {
+/// Starts this program again, for one row, and gives what it says: none where it takes longer than the limit.
+fn apart(words: &[String], limit: Duration) -> Option<String> {
     let program = std::env::current_exe().expect("this program has a path");
-    let mut child =
-        Command::new(program).args(["--one", &row.to_string(), &variant.to_string()]).stdout(Stdio::piped()).spawn().expect("it starts again");
+    let mut child = Command::new(program).args(words).stdout(Stdio::piped()).spawn().expect("it starts again");
     let start = Instant::now();
-    // the limit is for one run; a process has a warm-up and up to two seconds of runs, or one run more
     while child.try_wait().expect("a child").is_none() {
-        if start.elapsed() > 3 * limit {
+        if start.elapsed() > limit {
             child.kill().expect("a child");
             child.wait().expect("a child");
             return None;
@@ -49,54 +51,74 @@ fn measure_apart(row: usize, variant: usize, limit: Duration) -> Option<(usize, 
     }
     let mut said = String::new();
     child.stdout.take().expect("a pipe").read_to_string(&mut said).expect("text");
-    let (count, time) = said.trim().split_once(' ').expect("a count and a time");
-    let (count, time) = (count.parse().expect("a count"), time.parse().expect("a time"));
-    (time <= limit.as_secs_f64() * 1e3).then_some((count, time))
+    Some(said)
+}
+
+/// The count of a variant, in a process of its own: none where one run takes longer than the limit.
+fn count_apart(row: usize, variant: usize, limit: Duration) -> Option<usize> {
+    let said = apart(&["--count".into(), row.to_string(), variant.to_string()], limit)?;
+    Some(said.trim().parse().expect("a count"))
+}
+
+/// The time of the first of these variants, and the ratio of each to it. They run in turns, so that what else the machine does meets them alike: each
+/// ratio is taken within its round, and the median over the rounds is given. A first run of each is the warm-up.
+fn in_turns(row: &Row, variants: &[usize]) -> (f64, Vec<f64>) {
+    let graph = (row.graph)();
+    let run = |i: usize| VARIANTS[i].count(&graph, row.k, row.q);
+    let firsts: Vec<f64> = variants.iter().map(|&i| clock::timed(|| run(i)).1).collect();
+    let rounds = ((4000.0 / firsts.iter().sum::<f64>()) as usize).clamp(3, 15);
+    let round = || -> Vec<f64> { variants.iter().zip(&firsts).map(|(&i, &first)| once(first, || run(i))).collect() };
+    let times: Vec<Vec<f64>> = (0..rounds).map(|_| round()).collect();
+    let ratio = |i: usize| median(times.iter().map(|round| round[i] / round[0]).collect());
+    (median(times.iter().map(|round| round[0]).collect()), (0..variants.len()).map(ratio).collect())
+}
+
+/// The same in a process of its own.
+fn in_turns_apart(row: usize, variants: &[usize]) -> (f64, Vec<f64>) {
+    let list = variants.iter().map(usize::to_string).collect::<Vec<_>>().join(",");
+    let said = apart(&["--turns".into(), row.to_string(), list], Duration::MAX).expect("no limit");
+    let mut numbers = said.split_whitespace().map(|word| word.parse::<f64>().expect("a number"));
+    (numbers.next().expect("a time"), numbers.collect())
 }
 
 /// One row of the table of cuts, and the ratio of each variant, if it was within the limit.
-fn cut_row(at: usize, row: &Row, limit: Duration) -> Vec<Option<f64>> {
+fn cut_row(at: usize, row: &Row, chosen: &[usize], limit: Duration) -> Vec<Option<f64>> {
     print!("| {} | {} | {} |", row.name, row.k, row.q);
-    let Some((m, all)) = measure_apart(at, 0, limit) else {
-        println!(" | > {} |{}", limit.as_millis(), " |".repeat(VARIANTS.len() - 1));
+    let applies = |i: usize| row.k == 1 || !matches!(VARIANTS[i], Variant::Cliques | Variant::PivotOff);
+    let counts: Vec<Option<usize>> = chosen.iter().map(|&i| if applies(i) { count_apart(at, i, limit) } else { None }).collect();
+    let Some(m) = counts[0] else {
+        println!(" | > {} |{}", limit.as_millis(), " |".repeat(chosen.len() - 1));
         return vec![];
     };
-    print!(" {m} | {all:.2} |");
-    let mut ratios = vec![Some(1.0)];
-    for (i, &variant) in VARIANTS.iter().enumerate().skip(1) {
-        if matches!(variant, Variant::Cliques | Variant::PivotOff) && row.k != 1 {
-            print!(" |");
-            ratios.push(None);
-            continue;
-        }
-        match measure_apart(at, i, limit) {
-            Some((count, time)) => {
-                assert_eq!(count, m, "{} k={} q={} {}", row.name, row.k, row.q, variant.head());
-                print!(" {:.2} |", time / all);
-                ratios.push(Some(time / all));
-            }
-            None => {
-                print!(" > {:.0} |", limit.as_secs_f64() * 1e3 / all);
-                ratios.push(None);
-            }
+    counts.iter().flatten().for_each(|&count| assert_eq!(count, m, "{} k={} q={}", row.name, row.k, row.q));
+    let within: Vec<usize> = chosen.iter().zip(&counts).filter(|(_, count)| count.is_some()).map(|(&i, _)| i).collect();
+    let (all, ratios) = in_turns_apart(at, &within);
+    print!(" {m} | {all:.3} |");
+    let ratios: Vec<Option<f64>> = chosen.iter().map(|i| within.iter().position(|j| j == i).map(|at| ratios[at])).collect();
+    for (&i, ratio) in chosen.iter().zip(&ratios).skip(1) {
+        match ratio {
+            Some(ratio) => print!(" {ratio:.2} |"),
+            None if applies(i) => print!(" > {:.0} |", limit.as_secs_f64() * 1e3 / all),
+            None => print!(" |"),
         }
     }
     println!();
     ratios
 }
 
-fn cuts(only: Option<&str>, limit: Duration) {
+fn cuts(only: Option<&str>, rivals: bool, limit: Duration) {
+    let chosen: Vec<usize> = (0..VARIANTS.len()).filter(|&i| !rivals || i == 0 || VARIANTS[i].is_rival()).collect();
     println!("## Cuts\n");
     println!(
         "Time with all cuts, and the time of each variant as a multiple of it. A variant that took longer than {} s is given as more than that.\n",
         limit.as_secs()
     );
     print!("| graph | k | q | m |");
-    VARIANTS.iter().for_each(|variant| print!(" {} |", variant.head()));
-    println!("\n|---|---|---|---|{}", "---|".repeat(VARIANTS.len()));
+    chosen.iter().for_each(|&i| print!(" {} |", VARIANTS[i].head()));
+    println!("\n|---|---|---|---|{}", "---|".repeat(chosen.len()));
     let mut sums = [[(0.0, 0usize); VARIANTS.len()]; 6];
     for (at, row) in ROWS.iter().enumerate().filter(|(_, row)| only.is_none_or(|name| row.name == name)) {
-        for (i, ratio) in cut_row(at, row, limit).into_iter().enumerate() {
+        for (i, ratio) in cut_row(at, row, &chosen, limit).into_iter().enumerate() {
             if let Some(ratio) = ratio {
                 sums[row.k][i].0 += ratio.ln();
                 sums[row.k][i].1 += 1;
@@ -105,11 +127,11 @@ fn cuts(only: Option<&str>, limit: Duration) {
     }
     println!("\nGeometric means of the ratios, over the runs within the limit:\n");
     print!("| k |");
-    VARIANTS.iter().skip(1).for_each(|variant| print!(" {} |", variant.head()));
-    println!("\n|---|{}", "---|".repeat(VARIANTS.len() - 1));
+    chosen.iter().skip(1).for_each(|&i| print!(" {} |", VARIANTS[i].head()));
+    println!("\n|---|{}", "---|".repeat(chosen.len() - 1));
     for (k, sums) in sums.iter().enumerate().skip(1) {
         print!("| {k} |");
-        for &(sum, count) in &sums[1..] {
+        for &(sum, count) in &sums[1..chosen.len()] {
             match count {
                 0 => print!(" |"),
                 _ => print!(" {:.2} ({count}) |", (sum / count as f64).exp()),
@@ -166,18 +188,21 @@ fn growth() {
 fn main() {
     let arguments: Vec<String> = std::env::args().skip(1).collect();
     let after = |name: &str| arguments.iter().position(|a| a == name).and_then(|at| arguments.get(at + 1)).map(String::as_str);
-    if arguments.first().is_some_and(|first| first == "--one") {
-        let (row, variant): (usize, usize) = (arguments[1].parse().expect("a row"), arguments[2].parse().expect("a variant"));
-        let row = &ROWS[row];
-        let graph = (row.graph)();
-        let (count, time) = measure(|| VARIANTS[variant].count(&graph, row.k, row.q));
-        println!("{count} {time}");
+    let row_named = |name| after(name).map(|row| &ROWS[row.parse::<usize>().expect("a row")]);
+    let variants = || arguments[2].split(',').map(|i| i.parse().expect("a variant")).collect::<Vec<usize>>();
+    if let Some(row) = row_named("--count") {
+        println!("{}", VARIANTS[variants()[0]].count(&(row.graph)(), row.k, row.q));
+        return;
+    }
+    if let Some(row) = row_named("--turns") {
+        let (time, ratios) = in_turns(row, &variants());
+        println!("{time} {}", ratios.iter().map(f64::to_string).collect::<Vec<_>>().join(" "));
         return;
     }
     let limit = Duration::from_secs(after("--limit").map_or(3, |s| s.parse().expect("seconds")));
     let part = |name| after("--part").is_none_or(|part| part == name);
     if part("cuts") {
-        cuts(after("--only"), limit);
+        cuts(after("--only"), arguments.iter().any(|a| a == "--rivals"), limit);
     }
     if part("placing") && after("--only").is_none() {
         placing();

@@ -39,6 +39,11 @@ impl Variant {
         }
     }
 
+    /// Is it an independent implementation?
+    pub fn is_rival(self) -> bool {
+        matches!(self, Published | Cliques)
+    }
+
     fn cuts(self) -> Cuts {
         let all = Cuts::default();
         match self {
