@@ -16,7 +16,7 @@ use lib.Seq.{getD-set-same, getD-set-other}
 use Rattle.sets.specs.Set.{bit, has, In, Sub, size, without, full}
 use Rattle.sets.specs.Graph.{row}
 use Rattle.sets.specs.RangeLaws.{both, false-fails}
-use Rattle.sets.specs.BitLaws.{bit-le}
+use Rattle.sets.specs.BitLaws.{bit-le, bit-and}
 use Rattle.sets.specs.SubsetLaws.{without-other, in-of-sub, in-below, in-has}
 use Rattle.sets.specs.SizeLaws.{minus-below}
 use Rattle.sets.specs.MemberLaws.{set-of-in, set-of-below}
@@ -30,7 +30,7 @@ use Rattle.bounds.specs.PairLaws.{pair-common}
 use Rattle.bounds.specs.Reach.{reach}
 use Rattle.bounds.specs.ReachLaws.{reach-below, plex-reach}
 use Rattle.search.specs.Listing.{Listed}
-use Rattle.search.specs.NearRows.{close, pairRow, nearRow, Pairing, Written, NearAt, Filled}
+use Rattle.search.specs.NearRows.{close, pairRow, reachRow, nearRow, Pairing, Written, NearAt, Filled}
 
 -- ---- pair rows
 
@@ -52,11 +52,11 @@ pub close-test : (g : List ℕ) (k q s v u a b m c n : ℕ) (t : Bool) → a ≡
 unfolding close common adjacent
 close-test g k q s v u a b m c n t ea eb em ec en et = rw (et, en, ec, em, eb, ea)
 
--- a walk through s without v that takes out what is not close to v ends with the pair row
-pub sifted-row : (g : List ℕ) (k q s v left kept : ℕ) → s < 2 ^ length g → left ≡ 0 → Sifted (close g k q s v) (without s v) left kept
-    → kept ≡ pairRow g k q s v
+-- a walk through f without v that takes out what is not close to v ends with the pair row
+pub sifted-row : (g : List ℕ) (k q s f v left kept : ℕ) → f < 2 ^ length g → left ≡ 0 → Sifted (close g k q s v) (without f v) left kept
+    → kept ≡ pairRow g k q s f v
 unfolding pairRow
-sifted-row g k q s v left kept b z h = sifted-all _ _ (length g) left kept (minus-below (length g) s (2 ^ v) b) z h
+sifted-row g k q s f v left kept b z h = sifted-all _ _ (length g) left kept (minus-below (length g) f (2 ^ v) b) z h
 
 -- ---- a table filled row by row
 
@@ -85,23 +85,29 @@ module _ (g : List ℕ) (k q v : ℕ) where
         near = λ x h hv u hu ne. in-of-sub x (reach g v) u (plex-reach g k x v ok (h .below) (h .top .0) (omega (arith, h .large)) hv) hu;
       }
 
-  pub pair-row-near : (s : ℕ) → Valid g → ((x : ℕ) → Listed g k q x → Sub x s) → NearAt g k q v (pairRow g k q s v)
+  pub reach-row-near : (r : Bool) → Valid g → 2 * k ≤ q + 1 → NearAt g k q v (reachRow g r v)
+  unfolding reachRow
+  reach-row-near true ok big = reach-near ok big
+  reach-row-near false ok big = full-near
+
+  -- what is near, sifted by pairs of s
+  pub pair-row-near : (s w : ℕ) → Valid g → ((x : ℕ) → Listed g k q x → Sub x s) → NearAt g k q v w → NearAt g k q v (pairRow g k q s (bitAnd s w) v)
   unfolding pairRow
-  pair-row-near s ok holds = record {
+  pair-row-near s w ok holds wide = record {
     low = set-of-below _ (length g);
     near = λ x h hv u hu ne.
         let apart : v ≢ u = λ e. ne (sym e) in
+        let inside : In u (bitAnd s w) = omega (arith, bit-and s w u, in-of-sub x s u (holds x h) hu, wide .near x h hv u hu ne) in
         set-of-in _ (length g) u (in-below _ x u (h .below) hu)
-        (both (has (without s v) u) (close g k q s v u) (in-has _ u (without-other s v u apart ∙ in-of-sub x s u (holds x h) hu))
+        (both (has (without (bitAnd s w) v) u) (close g k q s v u) (in-has _ u (without-other (bitAnd s w) v u apart ∙ inside))
         (pair-close g k q s x v u ok (h .below) (h .large) (h .top .0) (holds x h) hv hu apart));
   }
 
   -- whatever is switched on
   pub near-row-near : (s : ℕ) (r p : Bool) → Pairing g k q s → 2 * k ≤ q + 1 → NearAt g k q v (nearRow g k q s r p v)
   unfolding nearRow
-  near-row-near s r true h big = pair-row-near s (h .valid) (h .holds)
-  near-row-near s true false h big = reach-near (h .valid) big
-  near-row-near s false false h big = full-near
+  near-row-near s r true h big = pair-row-near s (reachRow g r v) (h .valid) (h .holds) (reach-row-near r (h .valid) big)
+  near-row-near s r false h big = reach-row-near r (h .valid) big
 
 -- so the table is
 pub written-filled : (g : List ℕ) (k q s m : ℕ) (r p : Bool) (before t : List ℕ) → Pairing g k q s → 2 * k ≤ q + 1 → length g ≤ m

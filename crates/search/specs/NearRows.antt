@@ -1,8 +1,9 @@
 -- The tables of near rows, by which the search drops candidates once it has taken a vertex.
 --
 --   close g k q s v u         u and v have as many common neighbours in s as two members of one plex of q or more members of s (001, Lemma 3)
---   pairRow g k q s v         the members of s, v aside, that are close to v
---   nearRow g k q s r p v     row v by the strongest cut that is switched on, where r is the switch of the reach and p that of the pairs
+--   pairRow g k q s f v       the members of f, v aside, that are close to v
+--   reachRow g r v            the reach of v where the switch r is on, else all vertices
+--   nearRow g k q s r p v     row v by the cuts that are switched on, where r is the switch of the reach and p that of the pairs
 --   Pairable g k q s          what a pair row relies on: s is inside the graph, and the sums of the test are small
 --   Pairing g k q s           the same, of a valid graph, and s holds every listed plex
 --   Lent g t                  the lent table t has a row for each vertex
@@ -14,6 +15,7 @@ use mathlib.Core.Path.{_≡_}
 use mathlib.Core.Logic.{_≢_}
 use mathlib.Core.Bool.{Bool, cond, _&&_}
 use mathlib.Core.List.{List}
+use lib.Bits.{bitAnd}
 use lib.Dec.{leb}
 use lib.ListN.{length}
 use Rattle.sets.specs.Set.{has, In, Sub, without, full, setOf}
@@ -30,11 +32,14 @@ use Rattle.search.specs.Found.{Near}
 unfoldable pub close : List ℕ → ℕ → ℕ → ℕ → ℕ → ℕ → Bool
 close g k q s v u = leb (cond (adjacent g v u) q (q + 2)) (common g s v u + 2 * k)
 
-unfoldable pub pairRow : List ℕ → ℕ → ℕ → ℕ → ℕ → ℕ
-pairRow g k q s v = setOf (length g) (λ u. has (without s v) u && close g k q s v u)
+unfoldable pub pairRow : List ℕ → ℕ → ℕ → ℕ → ℕ → ℕ → ℕ
+pairRow g k q s f v = setOf (length g) (λ u. has (without f v) u && close g k q s v u)
+
+unfoldable pub reachRow : List ℕ → Bool → ℕ → ℕ
+reachRow g r v = cond r (reach g v) (full (length g))
 
 unfoldable pub nearRow : List ℕ → ℕ → ℕ → ℕ → Bool → Bool → ℕ → ℕ
-nearRow g k q s r p v = cond p (pairRow g k q s v) (cond r (reach g v) (full (length g)))
+nearRow g k q s r p v = cond p (pairRow g k q s (bitAnd s (reachRow g r v)) v) (reachRow g r v)
 
 pub record Pairable (g : List ℕ) (k q s : ℕ) : Type 0 where
   pub inside : Inside g s

@@ -1,10 +1,11 @@
 // Tables of near rows: once the search has taken a vertex, it keeps no candidate outside the vertex's row.
 ghost use mathlib.Core.Path.{_≡_};
-ghost use Prim.Native.Nat.{_+_, _*_, _<_, _≤_};
+ghost use Prim.Native.Nat.{_+_, _*_, _^_, _<_, _≤_};
 ghost use lib.ListN.{length};
 ghost use Rattle.sets.specs.Words.{mask, masks};
 ghost use Rattle.judging.specs.Graph.{Valid};
-ghost use Rattle.search.specs.NearRows.{close, pairRow, nearRow, Pairable, Pairing, Lent, Filled};
+ghost use Rattle.judging.specs.Setting.{LowRows, Sized};
+ghost use Rattle.search.specs.NearRows.{close, pairRow, reachRow, nearRow, Pairable, Pairing, Lent, Filled};
 use sets::Set;
 
 // Have u and v as many common neighbours in the core as two members of one k-plex of q or more members have there?
@@ -20,12 +21,12 @@ pub fn is_close(rows: &[u64], k: usize, q: usize, core: Set, v: usize, u: usize)
     q + 2 <= shared + 2 * k
 }
 
-// The members of the core that are close to v.
-pub fn pair_row(rows: &[u64], k: usize, q: usize, core: Set, v: usize) -> Set
-    requires { ⌜ Pairable (masks (now rows)) k q (mask core) × (v < length (masks (now rows))) ⌝ }
-    ensures { λ r. ⌜ mask r ≡ pairRow (masks (now (rows .entry))) k q (mask core) v ⌝ }
+// The members of `from`, v aside, that are close to v.
+pub fn pair_row(rows: &[u64], k: usize, q: usize, core: Set, from: Set, v: usize) -> Set
+    requires { ⌜ Pairable (masks (now rows)) k q (mask core) × (mask from < 2 ^ length (masks (now rows))) × (v < length (masks (now rows))) ⌝ }
+    ensures { λ r. ⌜ mask r ≡ pairRow (masks (now (rows .entry))) k q (mask core) (mask from) v ⌝ }
 {
-    let mut left = sets::without(core, v);
+    let mut left = sets::without(from, v);
     let mut kept = left;
     while !sets::is_empty(left) {
         let u = sets::lowest(left);
@@ -37,7 +38,18 @@ pub fn pair_row(rows: &[u64], k: usize, q: usize, core: Set, v: usize) -> Set
     kept
 }
 
-// Row v of the table by the strongest cut that is switched on: its pair row, its two-hop reach, or all vertices.
+// The two-hop reach of v, or all vertices where that is switched off.
+pub fn reach_row(rows: &[u64], reach: bool, v: usize) -> Set
+    requires { ⌜ LowRows (masks (now rows)) × Sized (masks (now rows)) × (v < length (masks (now rows))) ⌝ }
+    ensures { λ r. ⌜ mask r ≡ reachRow (masks (now (rows .entry))) reach v ⌝ }
+{
+    if reach {
+        return bounds::reach::reach(rows, v);
+    }
+    sets::full(sets::count(rows))
+}
+
+// Row v of the table by the cuts that are switched on. Pairs are counted within the reach alone, which on a sparse graph is small.
 pub fn near_row(
     rows: &[u64],
     k: usize,
@@ -50,16 +62,14 @@ pub fn near_row(
     requires { ⌜ Pairable (masks (now rows)) k q (mask core) × Valid (masks (now rows)) × (v < length (masks (now rows))) ⌝ }
     ensures { λ r. ⌜ mask r ≡ nearRow (masks (now (rows .entry))) k q (mask core) reach pairs v ⌝ }
 {
+    let within = reach_row(rows, reach, v);
     if pairs {
-        return pair_row(rows, k, q, core, v);
+        return pair_row(rows, k, q, core, sets::meet(core, within), v);
     }
-    if reach {
-        return bounds::reach::reach(rows, v);
-    }
-    sets::full(sets::count(rows))
+    within
 }
 
-// Writes the table row by row, by the strongest cut that is switched on.
+// Writes the table row by row.
 pub fn fill(rows: &[u64], k: usize, q: usize, core: Set, reach: bool, pairs: bool, near: &mut [u64])
     requires { ⌜ Lent (masks (now rows)) (masks (now near)) × Pairing (masks (now rows)) k q (mask core) × (2 * k ≤ q + 1) ⌝ }
     ensures { λ _. ⌜ Filled (masks (now (rows .entry))) k q (masks (now (near .entry))) (masks (now (near .exit))) ⌝ }

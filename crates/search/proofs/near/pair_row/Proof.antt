@@ -1,4 +1,4 @@
--- `search::near::pair_row` meets its contract. A walk through the core without v takes out each member that is not close to v.
+-- `search::near::pair_row` meets its contract. A walk through the given members without v takes out each member that is not close to v.
 use native.Mathlib.Omega.{arith}
 use mathlib.Core.Path.{sym, _∙_}
 use borrow.Author.Tests.{not-true, not-false}
@@ -12,13 +12,13 @@ use Rattle.search.proofs.near.pair_row.Statement.{statement}
 use Rattle.search.proofs.near.pair_row.Tie as tie
 
 abbrev Inv-loop : tie.InvT-loop
-Inv-loop rows k q core v left₀ kept₀ left kept = Sifted (close (masks rows) k q (mask core) v) (without (mask core) v) (mask left) (mask kept)
+Inv-loop rows k q core from v left₀ kept₀ left kept = Sifted (close (masks rows) k q (mask core) v) (without (mask from) v) (mask left) (mask kept)
 
 abbrev μ-loop : tie.MeasureT-loop
-μ-loop rows k q core v left₀ kept₀ left kept = mask left
+μ-loop rows k q core from v left₀ kept₀ left kept = mask left
 
 without-requires : tie.Need-without-requires Inv-loop μ-loop
-without-requires c κs = omega (arith, c .before .pre .0 .inside .most, c .before .pre .1)
+without-requires c κs = omega (arith, c .before .pre .0 .inside .most, c .before .pre .2)
 
 loop-holds : tie.Need-loop-holds Inv-loop μ-loop
 loop-holds c = rw (c .without .ensures) (sifted-none _ _)
@@ -35,7 +35,7 @@ rest-requires c κs = c .lowest .ensures
 is-close-requires : tie.Need-is-close-requires Inv-loop μ-loop
 is-close-requires c κs =
     let pre = c .before .before .before .before .before .before .before .pre in
-    (pre .0, pre .1, walk-below _ _ _ _ (minus-below _ _ _ (pre .0 .inside .below)) (c .before .before .before .before .loop .inv .passed .part) (c .before .lowest .ensures))
+    (pre .0, pre .2, walk-below _ _ _ _ (minus-below _ _ _ (pre .1)) (c .before .before .before .before .loop .inv .passed .part) (c .before .lowest .ensures))
 
 without-requires-2 : tie.Need-without-requires-2 Inv-loop μ-loop
 without-requires-2 c κs = c .before .before .before .lowest .ensures .fits
@@ -57,7 +57,7 @@ loop-again-2 c =
 
 returns : tie.Need-returns Inv-loop μ-loop
 returns c =
-    sifted-row _ _ _ _ _ _ _ (c .before .before .before .before .before .pre .0 .inside .below) (walk-over _ _ (c .before .is-empty .ensures) (c .if1 .left)) (c .before .before .loop .inv)
+    sifted-row _ _ _ _ _ _ _ _ (c .before .before .before .before .before .pre .1) (walk-over _ _ (c .before .is-empty .ensures) (c .if1 .left)) (c .before .before .loop .inv)
 
 pub pair-row-spec : {M : Type 1} → statement M
 pair-row-spec =
