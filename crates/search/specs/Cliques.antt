@@ -2,6 +2,7 @@
 --
 --   Common g s m         m are the vertices that are adjacent to every member of s
 --   Covering g c m r     r are candidates of c, among them all that some vertex of m, the pivot, is not adjacent to
+--   Pivoting g c m l b   b are such candidates, and the vertices l of m are still to be looked at
 --   touched g q s b t x  x is listed, holds s, has no member outside s, b and t, and has one in t
 --   Sweeping, Taking     what the calls of the search rely on: s is a clique of `have` members, m its common neighbours, and b and t are apart
 --                        and candidates among them
@@ -48,6 +49,10 @@ pub record Covering (g : List ℕ) (c m r : ℕ) : Type 0 where
   pub member : In pivot m
   pub covers : Sub (minus c (row g pivot)) r
   pub part : Sub r c
+
+pub record Pivoting (g : List ℕ) (c m left best : ℕ) : Type 0 where
+  pub cover : Covering g c m best
+  pub part : Sub left m
 
 unfoldable pub touched : List ℕ → ℕ → ℕ → ℕ → ℕ → ℕ → Bool
 touched g q s b t x = found g 1 q s (bitOr b t) x && not (eqb (bitAnd x t) 0)
@@ -578,12 +583,14 @@ pub pivot-covers : (g : List ℕ) (c m p r : ℕ) → In p m → r ≡ minus c (
 pivot-covers g c m p r i e =
     subst (Covering g c m) (sym e) (record { pivot = p; member = i; covers = sub-refl (minus c (row g p)); part = minus-sub c (row g p) })
 
--- a pivot that is adjacent to every candidate leaves none
-pub pivot-none : (g : List ℕ) (c m p r : ℕ) → In p m → missing g c p ≡ 0 → r ≡ 0 → Covering g c m r
-unfolding missing
-pivot-none g c m p r i z e = pivot-covers g c m p r i (e ∙ (sub-size-eq 0 (minus c (row g p)) (λ u. omega (arith, bit-high 0 u (pow-pos u))) (omega (arith, z))))
-
 pub all-cover : (g : List ℕ) (c m : ℕ) → Pickable g m → Covering g c m c
 all-cover g c m h =
     let w = some-member m (positive-size m (h .some)) in
     record { pivot = w .0; member = w .1; covers = minus-sub c (row g (w .0)); part = sub-refl c }
+
+pub pivoting-none : (g : List ℕ) (c m : ℕ) → Pickable g m → Pivoting g c m m c
+pivoting-none g c m h = record { cover = all-cover g c m h; part = sub-refl m }
+
+pub pivoting-next : (g : List ℕ) (c m left r v best : ℕ) → r ≡ without left v → Sub left m → Covering g c m best → Pivoting g c m r best
+pivoting-next g c m left r v best e p w =
+    record { cover = w; part = subst (λ (y : ℕ). Sub y m) (sym e) (sub-trans (without left v) left m (minus-sub left (2 ^ v)) p) }

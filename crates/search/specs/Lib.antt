@@ -16,5 +16,6 @@ pub mod NearLaws
 pub mod Ready
 pub mod Calls
 pub mod Cliques
+pub mod CliqueEnds
 pub mod TopLaws
 pub mod Edges

@@ -1,8 +1,12 @@
 // Slack 1, where a plex is a clique: the search by a pivot.
-ghost use Prim.Native.Nat.{_+_, _^_, _<_};
+ghost use Prim.Native.Nat.{_+_, _^_, _<_, _≤_};
+ghost use mathlib.Core.Path.{_≡_};
+ghost use mathlib.Core.Logic.{_≢_};
+ghost use mathlib.Core.Bool.{true};
 ghost use lib.Dec.{ltb};
 ghost use lib.ListN.{length};
-ghost use Rattle.sets.specs.Words.{mask, masks};
+ghost use Rattle.sets.specs.Set.{size, with};
+ghost use Rattle.sets.specs.Words.{width, mask, masks};
 ghost use Rattle.search.specs.Placing.{Adds};
 ghost use Rattle.search.specs.Ready.{unless};
 ghost use Rattle.search.specs.Cliques.{Covering, Placeable, Taking, Sweeping, touched};
@@ -10,27 +14,28 @@ ghost use Rattle.search.specs.Found.{found};
 ghost use Rattle.search.specs.Choice.{Pickable};
 use sets::Set;
 
-// The candidates that some vertex of m, the pivot, is not adjacent to. The pivot is the one with the fewest.
+// The candidates that some vertex of m, the pivot, is not adjacent to. The pivot is one with the fewest, or the first with one at most.
 pub fn pivot(rows: &[u64], c: Set, m: Set) -> Set
     requires { ⌜ Pickable (masks (now rows)) (mask m) ⌝ }
     ensures { λ r. ⌜ Covering (masks (now (rows .entry))) (mask c) (mask m) (mask r) ⌝ }
 {
-    let mut best = sets::lowest(m);
+    let mut best = c;
     let mut fewest = sets::WIDTH;
     let mut left = m;
     while !sets::is_empty(left) {
         let p = sets::lowest(left);
         left = sets::rest(left, p);
-        let n = judging::plex::missing(rows, c, p);
+        let missed = sets::minus(c, sets::get(rows, p));
+        let n = sets::size(missed);
+        if n <= 1 {
+            return missed;
+        }
         if n < fewest {
-            best = p;
+            best = missed;
             fewest = n;
-            if n == 0 {
-                return sets::empty();
-            }
         }
     }
-    sets::minus(c, sets::get(rows, best))
+    best
 }
 
 // The candidates to take one after the other: all while more than `wide` are left, so that masks come almost in rising order, else those of the pivot.
@@ -62,7 +67,86 @@ pub fn place_clique(
     crate::place::insert(slots, count, s)
 }
 
+// The same where no candidate is left: places the clique s, which has `have` members, if it has no common neighbour, of which m are all.
+pub fn end(
+    rows: &[u64],
+    q: usize,
+    have: usize,
+    s: Set,
+    m: Set,
+    slots: &mut [u64],
+    count: usize,
+) -> usize
+    requires { ⌜ Taking (masks (now rows)) q have (mask s) 0 (mask m) count ⌝ }
+    ensures { λ r. ⌜ Adds (2 ^ length (masks (now (rows .entry)))) (found (masks (now (rows .entry))) 1 q (mask s) 0)
+        (masks (now (slots .entry))) count (masks (now (slots .exit))) r ⌝ }
+{
+    if sets::is_empty(m) {
+        return place_clique(q, have, s, sets::count(rows), slots, count);
+    }
+    count
+}
+
+// The same where v is the only candidate.
+pub fn end_with(
+    rows: &[u64],
+    q: usize,
+    have: usize,
+    s: Set,
+    v: usize,
+    m: Set,
+    slots: &mut [u64],
+    count: usize,
+) -> usize
+    requires { ⌜ Taking (masks (now rows)) q have (mask s) (2 ^ v) (mask m) count ⌝ }
+    ensures { λ r. ⌜ Adds (2 ^ length (masks (now (rows .entry)))) (found (masks (now (rows .entry))) 1 q (mask s) (2 ^ v))
+        (masks (now (slots .entry))) count (masks (now (slots .exit))) r ⌝ }
+{
+    let beside = sets::meet(m, sets::get(rows, v));
+    end(rows, q, have + 1, sets::with(s, v), beside, slots, count)
+}
+
+// The same where u and v are the only candidates: a clique has both if they are adjacent, else one of them.
+pub fn end_pair(
+    rows: &[u64],
+    q: usize,
+    have: usize,
+    s: Set,
+    u: usize,
+    v: usize,
+    m: Set,
+    slots: &mut [u64],
+    count: usize,
+) -> usize
+    requires { ⌜ Taking (masks (now rows)) q have (mask s) (with (2 ^ u) v) (mask m) count × (u ≢ v) ⌝ }
+    ensures { λ r. ⌜ Adds (2 ^ length (masks (now (rows .entry)))) (found (masks (now (rows .entry))) 1 q (mask s) (with (2 ^ u) v))
+        (masks (now (slots .entry))) count (masks (now (slots .exit))) r ⌝ }
+{
+    let row = sets::get(rows, u);
+    let more = have + 1;
+    let joined = sets::with(s, u);
+    let beside = sets::meet(m, row);
+    if sets::has(row, v) {
+        return end_with(rows, q, more, joined, v, beside, slots, count);
+    }
+    let n = end(rows, q, more, joined, beside, slots, count);
+    let others = sets::meet(m, sets::get(rows, v));
+    end(rows, q, more, sets::with(s, v), others, slots, n)
+}
+
+// Are `have` members and the candidates c fewer than q?
+pub fn is_few(q: usize, have: usize, c: Set) -> bool
+    requires { ⌜ have ≤ width ⌝ }
+    ensures { λ r. ⌜ (r ≡ true → have + size (mask c) < q) ⌝ }
+{
+    if q <= have {
+        return false;
+    }
+    have + sets::size(c) < q
+}
+
 // Places every listed clique that holds s, which has `have` members, and has no vertex outside s and c. The common neighbours of s are m.
+// Most calls have at most two candidates, which need no pivot.
 pub fn take(
     rows: &[u64],
     q: usize,
@@ -78,11 +162,20 @@ pub fn take(
     ensures { λ r. ⌜ Adds (2 ^ length (masks (now (rows .entry)))) (found (masks (now (rows .entry))) 1 q (mask s) (mask c))
         (masks (now (slots .entry))) count (masks (now (slots .exit))) r ⌝ }
 {
-    if sets::is_empty(m) {
-        return place_clique(q, have, s, sets::count(rows), slots, count);
+    if sets::is_empty(c) {
+        return end(rows, q, have, s, m, slots, count);
     }
-    if have + sets::size(c) < q {
+    if is_few(q, have, c) {
         return count;
+    }
+    let u = sets::lowest(c);
+    let second = sets::rest(c, u);
+    if sets::is_empty(second) {
+        return end_with(rows, q, have, s, u, m, slots, count);
+    }
+    let v = sets::lowest(second);
+    if sets::is_empty(sets::rest(second, v)) {
+        return end_pair(rows, q, have, s, u, v, m, slots, count);
     }
     let next = agenda(rows, c, m, wide);
     let others = sets::minus(c, next);

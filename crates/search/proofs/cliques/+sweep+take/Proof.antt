@@ -1,5 +1,5 @@
--- The proof of the cycle of calls {sweep, take}: a sweep adds what each vertex to take adds in turn, and a grown clique adds itself where nothing can be
--- added to it, and else what a sweep over the candidates of a pivot adds. The measure is the candidates, which fall when a vertex is taken.
+-- The proof of the cycle of calls {sweep, take}: a sweep adds what each vertex to take adds in turn, and a grown clique adds what its
+-- ends add where at most two candidates are left, and else what a sweep over the candidates of a pivot adds. The measure is the candidates, which fall when a vertex is taken.
 use Prim.Native.Nat.{ℕ, _+_, _*_, _<_}
 use borrow.Fn.Kinds.{In}
 use borrow.Fn.PlainCycle.{Measures, is, falls, and}
@@ -12,7 +12,8 @@ use lib.ListN.{length}
 use Rattle.sets.specs.Words.{mask, masks}
 use Rattle.sets.specs.SubsetLaws.{positive-of}
 use Rattle.sets.specs.WalkLaws.{walk-falls, walk-goes-on, walk-over}
-use Rattle.search.specs.Cliques.{sweep-fits, take-fits, sweep-vertex, Swept, swept-none, swept-falls, swept-taking, swept-more, swept-all, few-adds, next-candidates, next-sweeping, next-adds, lonely-placeable, lonely-adds}
+use Rattle.search.specs.Cliques.{sweep-fits, take-fits, sweep-vertex, Swept, swept-none, swept-falls, swept-taking, swept-more, swept-all, few-adds, next-candidates, next-sweeping, next-adds}
+use Rattle.search.specs.CliqueEnds.{one-left, two-left, taking-at, adds-at, taking-pickable}
 use Rattle.search.proofs.cliques.sweep.Reads as sweep
 use Rattle.search.proofs.cliques.sweep.Kinds as sweep-kinds
 use Rattle.search.proofs.cliques.+sweep+take.Lts-sweep as sweep-lts
@@ -20,15 +21,16 @@ use Rattle.search.proofs.cliques.take.Reads as take
 use Rattle.search.proofs.cliques.take.Kinds as take-kinds
 use Rattle.search.proofs.cliques.+sweep+take.Lts-take as take-lts
 use Rattle.search.proofs.cliques.agenda.Reads as agenda-reads
-use Rattle.search.proofs.cliques.place_clique.Reads as place-clique-reads
-use Rattle.sets.proofs.count.Reads as count-reads
+use Rattle.search.proofs.cliques.end.Reads as end-reads
+use Rattle.search.proofs.cliques.end_pair.Reads as end-pair-reads
+use Rattle.search.proofs.cliques.end_with.Reads as end-with-reads
+use Rattle.search.proofs.cliques.is_few.Reads as is-few-reads
 use Rattle.sets.proofs.get.Reads as get-reads
 use Rattle.sets.proofs.is_empty.Reads as is-empty-reads
 use Rattle.sets.proofs.lowest.Reads as lowest-reads
 use Rattle.sets.proofs.meet.Reads as meet-reads
 use Rattle.sets.proofs.minus.Reads as minus-reads
 use Rattle.sets.proofs.rest.Reads as rest-reads
-use Rattle.sets.proofs.size.Reads as size-reads
 use Rattle.sets.proofs.with.Reads as with-reads
 use Rattle.search.proofs.cliques.+sweep+take.{statement}
 use Rattle.search.proofs.cliques.+sweep+take.Tie.{close}
@@ -81,12 +83,18 @@ abbrev take-calls : ℕ → take-lts.Claims
 take-calls t = (
   is-empty-reads.Asked,
   is-empty-reads.Learnt,
-  count-reads.Asked,
-  count-reads.Learnt,
-  place-clique-reads.Asked,
-  place-clique-reads.Learnt,
-  size-reads.Asked,
-  size-reads.Learnt,
+  end-reads.Asked,
+  end-reads.Learnt,
+  is-few-reads.Asked,
+  is-few-reads.Learnt,
+  lowest-reads.Asked,
+  lowest-reads.Learnt,
+  rest-reads.Asked,
+  rest-reads.Learnt,
+  end-with-reads.Asked,
+  end-with-reads.Learnt,
+  end-pair-reads.Asked,
+  end-pair-reads.Learnt,
   agenda-reads.Asked,
   agenda-reads.Learnt,
   minus-reads.Asked,
@@ -146,45 +154,76 @@ module _ (t : ℕ) where
   take-is-empty-requires : take-lts.Need-is-empty-requires (take-calls t) (take-at t) take.Post
   take-is-empty-requires c κs = tt
 
-  take-count-requires : take-lts.Need-count-requires (take-calls t) (take-at t) take.Post
-  take-count-requires c κs = tt
-
-  take-place-clique-requires : take-lts.Need-place-clique-requires (take-calls t) (take-at t) take.Post
-  take-place-clique-requires c κs = lonely-placeable _ _ _ _ _ _ _ (c .before .before .before .before .before .before .pre .1) (eqb-true _ _ (sym (c .before .before .before .is-empty .ensures) ∙ c .before .before .if1 .taken)) _ (c .before .count .ensures)
+  take-end-requires : take-lts.Need-end-requires (take-calls t) (take-at t) take.Post
+  take-end-requires c κs = taking-at _ _ _ _ _ _ _ _ (eqb-true _ _ (sym (c .before .before .is-empty .ensures) ∙ c .before .if1 .taken)) (c .before .before .before .before .before .pre .1)
 
   take-same-length : take-lts.Need-same-length (take-calls t) (take-at t) take.Post
   take-same-length c = search needs
 
   take-returns : take-lts.Need-returns (take-calls t) (take-at t) take.Post
-  take-returns c = lonely-adds _ _ _ _ _ _ _ (c .before .before .before .before .before .before .before .before .before .pre .1) (eqb-true _ _ (sym (c .before .before .before .before .before .before .is-empty .ensures) ∙ c .before .before .before .before .before .if1 .taken)) _ (c .before .before .before .before .count .ensures) _ _ _ (c .before .before .place-clique .ensures)
+  take-returns c = adds-at _ _ _ _ _ _ _ _ _ (eqb-true _ _ (sym (c .before .before .before .before .before .is-empty .ensures) ∙ c .before .before .before .before .if1 .taken)) (c .before .before .end .ensures)
 
-  take-size-requires : take-lts.Need-size-requires (take-calls t) (take-at t) take.Post
-  take-size-requires c κs = tt
-
-  take-add-if2 : take-lts.Need-add-if2 (take-calls t) (take-at t) take.Post
-  take-add-if2 c = omega (arith, take-fits _ _ _ _ _ _ _ (c .before .before .before .before .before .pre .1), c .size .ensures .1)
+  take-is-few-requires : take-lts.Need-is-few-requires (take-calls t) (take-at t) take.Post
+  take-is-few-requires c κs = take-fits _ _ _ _ _ _ _ (c .before .before .before .before .pre .1)
 
   take-returns-2 : take-lts.Need-returns-2 (take-calls t) (take-at t) take.Post
-  take-returns-2 c = few-adds _ _ _ _ _ _ _ (c .before .before .before .before .before .before .pre .1) (omega (arith, c .if2 .taken, c .before .size .ensures .0)) _
+  take-returns-2 c = few-adds _ _ _ _ _ _ _ (c .before .before .before .before .before .before .pre .1) (c .before .is-few .ensures (c .if2 .taken)) _
+
+  take-lowest-requires : take-lts.Need-lowest-requires (take-calls t) (take-at t) take.Post
+  take-lowest-requires c κs = positive-of _ (eqb-false _ _ (sym (c .before .before .before .is-empty .ensures) ∙ c .before .before .if1 .left))
+
+  take-rest-requires : take-lts.Need-rest-requires (take-calls t) (take-at t) take.Post
+  take-rest-requires c κs = c .lowest .ensures
+
+  take-is-empty-requires-2 : take-lts.Need-is-empty-requires-2 (take-calls t) (take-at t) take.Post
+  take-is-empty-requires-2 c κs = tt
+
+  take-end-with-requires : take-lts.Need-end-with-requires (take-calls t) (take-at t) take.Post
+  take-end-with-requires c κs = taking-at _ _ _ _ _ _ _ _ (one-left _ _ _ (c .before .before .before .before .lowest .ensures .member) (c .before .before .before .rest .ensures) (eqb-true _ _ (sym (c .before .before .is-empty2 .ensures) ∙ c .before .if3 .taken))) (c .before .before .before .before .before .before .before .before .before .before .before .pre .1)
+
+  take-same-length-2 : take-lts.Need-same-length-2 (take-calls t) (take-at t) take.Post
+  take-same-length-2 c = search needs
+
+  take-returns-3 : take-lts.Need-returns-3 (take-calls t) (take-at t) take.Post
+  take-returns-3 c = adds-at _ _ _ _ _ _ _ _ _ (one-left _ _ _ (c .before .before .before .before .before .before .before .lowest .ensures .member) (c .before .before .before .before .before .before .rest .ensures) (eqb-true _ _ (sym (c .before .before .before .before .before .is-empty2 .ensures) ∙ c .before .before .before .before .if3 .taken))) (c .before .before .end-with .ensures)
+
+  take-lowest-requires-2 : take-lts.Need-lowest-requires-2 (take-calls t) (take-at t) take.Post
+  take-lowest-requires-2 c κs = positive-of _ (eqb-false _ _ (sym (c .before .is-empty2 .ensures) ∙ c .if3 .left))
+
+  take-rest-requires-2 : take-lts.Need-rest-requires-2 (take-calls t) (take-at t) take.Post
+  take-rest-requires-2 c κs = c .lowest2 .ensures
+
+  take-is-empty-requires-3 : take-lts.Need-is-empty-requires-3 (take-calls t) (take-at t) take.Post
+  take-is-empty-requires-3 c κs = tt
+
+  take-end-pair-requires : take-lts.Need-end-pair-requires (take-calls t) (take-at t) take.Post
+  take-end-pair-requires c κs = (
+      let two = two-left _ _ _ _ _ (c .before .before .before .before .before .before .before .before .lowest .ensures .member) (c .before .before .before .before .before .before .before .rest .ensures) (c .before .before .before .before .lowest2 .ensures .member) (c .before .before .before .rest2 .ensures) (eqb-true _ _ (sym (c .before .before .is-empty3 .ensures) ∙ c .before .if4 .taken)) in
+      (taking-at _ _ _ _ _ _ _ _ (two .0) (c .before .before .before .before .before .before .before .before .before .before .before .before .before .before .before .pre .1), two .1))
+
+  take-same-length-3 : take-lts.Need-same-length-3 (take-calls t) (take-at t) take.Post
+  take-same-length-3 c = search needs
+
+  take-returns-4 : take-lts.Need-returns-4 (take-calls t) (take-at t) take.Post
+  take-returns-4 c = adds-at _ _ _ _ _ _ _ _ _ (two-left _ _ _ _ _ (c .before .before .before .before .before .before .before .before .before .before .before .lowest .ensures .member) (c .before .before .before .before .before .before .before .before .before .before .rest .ensures) (c .before .before .before .before .before .before .before .lowest2 .ensures .member) (c .before .before .before .before .before .before .rest2 .ensures) (eqb-true _ _ (sym (c .before .before .before .before .before .is-empty3 .ensures) ∙ c .before .before .before .before .if4 .taken)) .0) (c .before .before .end-pair .ensures)
 
   take-agenda-requires : take-lts.Need-agenda-requires (take-calls t) (take-at t) take.Post
-  take-agenda-requires c κs =
-      record { some = positive-of _ (eqb-false _ _ (sym (c .before .before .before .is-empty .ensures) ∙ c .before .before .if1 .left)); below = (c .before .before .before .before .before .before .pre .1) .common .below }
+  take-agenda-requires c κs = taking-pickable _ _ _ _ _ _ _ (c .before .before .before .before .before .before .before .before .before .before .before .before .before .before .pre .1) _ (c .before .before .before .before .before .before .before .lowest .ensures .member)
 
   take-minus-requires : take-lts.Need-minus-requires (take-calls t) (take-at t) take.Post
   take-minus-requires c κs = tt
 
   take-sweep-requires : take-lts.Need-sweep-requires (take-calls t) (take-at t) take.Post
   take-sweep-requires c κs = (
-    omega (arith, next-candidates _ _ _ _ _ _ _ (c .before .before .before .before .before .before .before .before .before .pre .1) _ _ (c .before .minus .ensures) (c .before .before .agenda .ensures), c .before .before .before .before .before .before .before .before .before .pre .0),
-    next-sweeping _ _ _ _ _ _ _ (c .before .before .before .before .before .before .before .before .before .pre .1) _ _ (c .before .minus .ensures) (c .before .before .agenda .ensures),
+    omega (arith, next-candidates _ _ _ _ _ _ _ (c .before .before .before .before .before .before .before .before .before .before .before .before .before .before .before .before .before .pre .1) _ _ (c .before .minus .ensures) (c .before .before .agenda .ensures), c .before .before .before .before .before .before .before .before .before .before .before .before .before .before .before .before .before .pre .0),
+    next-sweeping _ _ _ _ _ _ _ (c .before .before .before .before .before .before .before .before .before .before .before .before .before .before .before .before .before .pre .1) _ _ (c .before .minus .ensures) (c .before .before .agenda .ensures),
   )
 
-  take-same-length-2 : take-lts.Need-same-length-2 (take-calls t) (take-at t) take.Post
-  take-same-length-2 c = search needs
+  take-same-length-4 : take-lts.Need-same-length-4 (take-calls t) (take-at t) take.Post
+  take-same-length-4 c = search needs
 
-  take-returns-3 : take-lts.Need-returns-3 (take-calls t) (take-at t) take.Post
-  take-returns-3 c = next-adds _ _ _ _ _ _ _ (c .before .before .before .before .before .before .before .before .before .before .before .before .pre .1) _ _ (c .before .before .before .before .minus .ensures) (c .before .before .before .before .before .agenda .ensures) _ _ _ (c .before .before .sweep .ensures)
+  take-returns-5 : take-lts.Need-returns-5 (take-calls t) (take-at t) take.Post
+  take-returns-5 c = next-adds _ _ _ _ _ _ _ (c .before .before .before .before .before .before .before .before .before .before .before .before .before .before .before .before .before .before .before .before .pre .1) _ _ (c .before .before .before .before .minus .ensures) (c .before .before .before .before .before .agenda .ensures) _ _ _ (c .before .before .sweep .ensures)
 
 pub +sweep+take-spec : {M : Type 1} → statement M
 +sweep+take-spec =
@@ -206,15 +245,25 @@ pub +sweep+take-spec : {M : Type 1} → statement M
     (sweep-returns t))
     (λ t. take-lts.spec (take-calls t) (take-at t) take.Post
     (take-is-empty-requires t)
-    (take-count-requires t)
-    (take-place-clique-requires t)
+    (take-end-requires t)
     (take-same-length t)
     (take-returns t)
-    (take-size-requires t)
-    (take-add-if2 t)
+    (take-is-few-requires t)
     (take-returns-2 t)
+    (take-lowest-requires t)
+    (take-rest-requires t)
+    (take-is-empty-requires-2 t)
+    (take-end-with-requires t)
+    (take-same-length-2 t)
+    (take-returns-3 t)
+    (take-lowest-requires-2 t)
+    (take-rest-requires-2 t)
+    (take-is-empty-requires-3 t)
+    (take-end-pair-requires t)
+    (take-same-length-3 t)
+    (take-returns-4 t)
     (take-agenda-requires t)
     (take-minus-requires t)
     (take-sweep-requires t)
-    (take-same-length-2 t)
-    (take-returns-3 t))
+    (take-same-length-4 t)
+    (take-returns-5 t))

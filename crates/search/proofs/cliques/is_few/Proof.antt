@@ -1,0 +1,23 @@
+-- `search::cliques::is_few` meets its contract: where the clique alone is large enough the candidates are not counted.
+use mathlib.Core.Bool.{false≢true}
+use Prim.Native.Nat.{_+_}
+use native.Mathlib.Omega.{arith}
+use borrow.Author.Needs.{needs}
+use borrow.Author.Tests.{ltb-true}
+use Rattle.search.proofs.cliques.is_few.Statement.{statement}
+use Rattle.search.proofs.cliques.is_few.Tie as tie
+
+returns : tie.Need-returns
+returns c e = absurd (false≢true e)
+
+size-requires : tie.Need-size-requires
+size-requires c κs = search needs
+
+add-result : tie.Need-add-result
+add-result c = search needs
+
+returns-2 : tie.Need-returns-2
+returns-2 c e = omega (arith, ltb-true (c .before .before .args .have + c .size .result) (c .before .before .args .q) e, c .size .ensures .0)
+
+pub is-few-spec : {M : Type 1} → statement M
+is-few-spec = tie.close (tie.spec returns size-requires add-result returns-2)
