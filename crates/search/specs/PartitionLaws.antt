@@ -50,11 +50,11 @@ module _ (g : List ℕ) (k r left : ℕ) where
         misses = w .misses;
       }
 
-  pub picking-keep : (todo kept best most u more : ℕ) → more ≡ with kept u → In u left → Picking g k r left todo kept best most → Picking g k r left todo more best most
+  pub picking-keep : (todo kept best most u more : ℕ) → Sub more (with kept u) → In u left → Picking g k r left todo kept best most → Picking g k r left todo more best most
   picking-keep todo kept best most u more e i w =
       record {
         part = w .part;
-        stay = λ v. subst (λ (x : ℕ). bit x v ≤ bit left v) (sym e) (with-sub kept u left (w .stay) i v);
+        stay = sub-trans more (with kept u) left e (with-sub kept u left (w .stay) i);
         fits = w .fits;
         member = w .member;
         misses = w .misses;

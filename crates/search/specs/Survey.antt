@@ -4,7 +4,8 @@
 --                                         worst is one that misses most, and free is what they leave open
 use Prim.Native.Nat.{ℕ, _<_, _≤_, max}
 use native.Mathlib.Omega.{arith}
-use mathlib.Core.Path.{_≡_, sym}
+use native.Mathlib.Decide.{decLt}
+use mathlib.Core.Path.{_≡_, sym, ap, subst, _∙_}
 use mathlib.Core.List.{List}
 use lib.Bits.{bitAnd}
 use lib.ListN.{length}
@@ -26,27 +27,28 @@ module _ (g : List ℕ) (k a : ℕ) where
       record { opened = opened-none g k a; bounded = walk-none (λ v. missing g a v ≤ max k 0) a; reached = λ l. absurd (omega arith) }
 
   module _ (left most worst free v r : ℕ) (e : r ≡ without left v) (h : Surveyed g k a left most worst free) where
-    pub survey-few : missing g a v < k → Surveyed g k a r most worst free
-    survey-few m =
-        record {
-          opened = opened-same g k a left free v r e (h .opened) m;
-          bounded = walk-next (λ u. missing g a u ≤ max k most) a left v r e (h .bounded) (omega arith);
-          reached = h .reached;
-        }
+    -- what is free is narrowed by each member that misses k or more
+    module _ (n p w : ℕ) (z : n ≡ missing g a v) (y : w ≡ row g v) (l : v < length g) (i : In v a)
+        (f : (k ≤ n → p ≡ bitAnd free w) × (n < k → p ≡ free)) where
+      narrowed : Opened g k a r p
+      narrowed = go (decLt n k)
+        where
+          go : Dec (n < k) → Opened g k a r p
+          go (yes d) = subst (Opened g k a r) (sym (f .1 d)) (opened-same g k a left free v r e (h .opened) (omega arith))
+          go (no d) = opened-meet g k a left free v r p e (f .0 (omega arith) ∙ ap (bitAnd free) y) (h .opened) l i (omega arith)
 
-    module _ (p : ℕ) (f : p ≡ bitAnd free (row g v)) (l : v < length g) (i : In v a) (m : k ≤ missing g a v) where
-      pub survey-many : missing g a v ≤ most → Surveyed g k a r most worst p
-      survey-many d =
+      pub survey-same : n ≤ most → Surveyed g k a r most worst p
+      survey-same d =
           record {
-            opened = opened-meet g k a left free v r p e f (h .opened) l i m;
+            opened = narrowed;
             bounded = walk-next (λ u. missing g a u ≤ max k most) a left v r e (h .bounded) (omega arith);
             reached = h .reached;
           }
 
-      pub survey-most : (n : ℕ) → n ≡ missing g a v → most < n → Surveyed g k a r n v p
-      survey-most n z d =
+      pub survey-more : most < n → Surveyed g k a r n v p
+      survey-more d =
           record {
-            opened = opened-meet g k a left free v r p e f (h .opened) l i m;
+            opened = narrowed;
             bounded =
                 walk-next (λ u. missing g a u ≤ max k n) a left v r e
                 (walk-map (λ u. missing g a u ≤ max k most) (λ u. missing g a u ≤ max k n) a left (λ u b. omega arith) (h .bounded)) (omega arith);

@@ -4,7 +4,8 @@ ghost use mathlib.Core.Path.{_≡_};
 ghost use mathlib.Core.Bool.{true};
 ghost use Prim.Native.Nat.{_^_, _<_};
 ghost use lib.ListN.{length};
-ghost use Rattle.sets.specs.Words.{mask, masks};
+ghost use Rattle.sets.specs.Set.{Sub, with};
+ghost use Rattle.sets.specs.Words.{width, mask, masks};
 ghost use Rattle.search.specs.Found.{Short};
 ghost use Rattle.search.specs.Partition.{Between, Picked};
 use sets::Set;
@@ -14,6 +15,17 @@ pub struct Choice {
     pub best: usize,
     pub most: usize,
     pub left: Set,
+}
+
+// Those that stay once u has been passed, which misses m.
+pub fn keep(k: usize, m: usize, kept: Set, u: usize) -> Set
+    requires { ⌜ u < width ⌝ }
+    ensures { λ r. ⌜ Sub (mask r) (with (mask kept) u) ⌝ }
+{
+    if k < m {
+        return sets::with(kept, u);
+    }
+    kept
 }
 
 // The member of left that misses most of r; most is k where none misses more. A member that misses at most k is dropped for good: r only shrinks.
@@ -29,12 +41,10 @@ pub fn pick(rows: &[u64], k: usize, r: Set, left: Set) -> Choice
         let u = sets::lowest(todo);
         todo = sets::rest(todo, u);
         let m = judging::plex::missing(rows, r, u);
-        if k < m {
-            kept = sets::with(kept, u);
-            if most < m {
-                best = u;
-                most = m;
-            }
+        kept = keep(k, m, kept, u);
+        if most < m {
+            best = u;
+            most = m;
         }
     }
     let others = sets::without(kept, best);

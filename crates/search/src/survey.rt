@@ -1,10 +1,13 @@
 // One pass over a set: how much its members miss, and which vertices no member blocks.
+ghost use Prim.Native.Nat.{_≤_, _<_};
+ghost use mathlib.Core.Path.{_≡_};
+ghost use lib.Bits.{bitAnd};
 ghost use Rattle.sets.specs.Words.{mask, masks};
 ghost use Rattle.judging.specs.Setting.{Inside};
 ghost use Rattle.search.specs.Survey.{Surveyed};
 use sets::Set;
 
-// What the pass finds: `most` is the largest number that a member misses, where that is k or more, `worst` such a member,
+// What the pass finds: `most` is the largest number that a member misses, `worst` such a member,
 // and `free` the vertices outside that each member that misses k or more is adjacent to.
 pub struct Findings {
     pub most: usize,
@@ -12,6 +15,17 @@ pub struct Findings {
     pub free: Set,
 }
 
+// What is free once v has been passed, whose row is given and which misses m.
+pub fn narrow(free: Set, row: Set, k: usize, m: usize) -> Set
+    ensures { λ r. ⌜ (k ≤ m → mask r ≡ bitAnd (mask free) (mask row)) × (m < k → mask r ≡ mask free) ⌝ }
+{
+    if k <= m {
+        return sets::meet(free, row);
+    }
+    free
+}
+
+// The two tests of a turn stand apart, so that they are compiled to choices and not to branches, which would be hard to foretell.
 pub fn survey(rows: &[u64], k: usize, a: Set) -> Findings
     requires { ⌜ Inside (masks (now rows)) (mask a) ⌝ }
     ensures { λ r. ⌜ Surveyed (masks (now (rows .entry))) k (mask a) 0 (r .most) (r .worst) (mask (r .free)) ⌝ }
@@ -24,12 +38,10 @@ pub fn survey(rows: &[u64], k: usize, a: Set) -> Findings
         let v = sets::lowest(left);
         left = sets::rest(left, v);
         let m = judging::plex::missing(rows, a, v);
-        if k <= m {
-            free = sets::meet(free, sets::get(rows, v));
-            if most < m {
-                most = m;
-                worst = v;
-            }
+        free = narrow(free, sets::get(rows, v), k, m);
+        if most < m {
+            most = m;
+            worst = v;
         }
     }
     Findings { most, worst, free }

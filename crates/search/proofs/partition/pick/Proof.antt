@@ -29,31 +29,25 @@ rest-requires c κs = c .lowest .ensures
 missing-requires : tie.Need-missing-requires Inv-loop μ-loop
 missing-requires c κs = walk-below _ _ _ _ (c .before .before .before .before .before .before .before .pre) (c .before .before .before .before .loop .inv .part) (c .before .lowest .ensures)
 
-with-requires : tie.Need-with-requires Inv-loop μ-loop
-with-requires c κs = c .before .before .before .lowest .ensures .fits
+keep-requires : tie.Need-keep-requires Inv-loop μ-loop
+keep-requires c κs = c .before .before .lowest .ensures .fits
 
 loop-less : tie.Need-loop-less Inv-loop μ-loop
-loop-less c = walk-falls _ _ _ (c .before .before .before .before .before .lowest .ensures) (c .before .before .before .before .rest .ensures)
+loop-less c = walk-falls _ _ _ (c .before .before .before .before .lowest .ensures) (c .before .before .before .rest .ensures)
 
 loop-again : tie.Need-loop-again Inv-loop μ-loop
 loop-again c =
-    picking-best _ _ _ _ _ _ _ _ _ _ (c .before .before .before .before .before .lowest .ensures .fits) (walk-member _ _ _ (c .before .before .before .before .before .before .before .before .loop .inv .part) (c .before .before .before .before .before .lowest .ensures)) (c .before .before .before .missing .ensures .0)
-    (picking-keep _ _ _ _ _ _ _ _ _ _ (c .before .with .ensures) (walk-member _ _ _ (c .before .before .before .before .before .before .before .before .loop .inv .part) (c .before .before .before .before .before .lowest .ensures))
-    (picking-pass _ _ _ _ _ _ _ _ _ _ (c .before .before .before .before .rest .ensures) (c .before .before .before .before .before .before .before .before .loop .inv)))
+    picking-best _ _ _ _ _ _ _ _ _ _ (c .before .before .before .before .lowest .ensures .fits) (walk-member _ _ _ (c .before .before .before .before .before .before .before .loop .inv .part) (c .before .before .before .before .lowest .ensures)) (c .before .before .missing .ensures .0)
+    (picking-keep _ _ _ _ _ _ _ _ _ _ (c .before .keep .ensures) (walk-member _ _ _ (c .before .before .before .before .before .before .before .loop .inv .part) (c .before .before .before .before .lowest .ensures))
+    (picking-pass _ _ _ _ _ _ _ _ _ _ (c .before .before .before .rest .ensures) (c .before .before .before .before .before .before .before .loop .inv)))
 
 loop-less-2 : tie.Need-loop-less-2 Inv-loop μ-loop
-loop-less-2 c = walk-falls _ _ _ (c .before .before .before .before .before .lowest .ensures) (c .before .before .before .before .rest .ensures)
+loop-less-2 c = walk-falls _ _ _ (c .before .before .before .before .lowest .ensures) (c .before .before .before .rest .ensures)
 
 loop-again-2 : tie.Need-loop-again-2 Inv-loop μ-loop
 loop-again-2 c =
-    picking-keep _ _ _ _ _ _ _ _ _ _ (c .before .with .ensures) (walk-member _ _ _ (c .before .before .before .before .before .before .before .before .loop .inv .part) (c .before .before .before .before .before .lowest .ensures))
-    (picking-pass _ _ _ _ _ _ _ _ _ _ (c .before .before .before .before .rest .ensures) (c .before .before .before .before .before .before .before .before .loop .inv))
-
-loop-less-3 : tie.Need-loop-less-3 Inv-loop μ-loop
-loop-less-3 c = walk-falls _ _ _ (c .before .before .before .lowest .ensures) (c .before .before .rest .ensures)
-
-loop-again-3 : tie.Need-loop-again-3 Inv-loop μ-loop
-loop-again-3 c = picking-pass _ _ _ _ _ _ _ _ _ _ (c .before .before .rest .ensures) (c .before .before .before .before .before .before .loop .inv)
+    picking-keep _ _ _ _ _ _ _ _ _ _ (c .before .keep .ensures) (walk-member _ _ _ (c .before .before .before .before .before .before .before .loop .inv .part) (c .before .before .before .before .lowest .ensures))
+    (picking-pass _ _ _ _ _ _ _ _ _ _ (c .before .before .before .rest .ensures) (c .before .before .before .before .before .before .before .loop .inv))
 
 without-requires : tie.Need-without-requires Inv-loop μ-loop
 without-requires c κs = c .before .before .loop .inv .fits
@@ -73,12 +67,10 @@ pick-spec =
     lowest-requires
     rest-requires
     missing-requires
-    with-requires
+    keep-requires
     loop-less
     loop-again
     loop-less-2
     loop-again-2
-    loop-less-3
-    loop-again-3
     without-requires
     returns)

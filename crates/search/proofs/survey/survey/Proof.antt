@@ -1,10 +1,8 @@
 -- `search::survey::survey` meets its contract: each member passed keeps what is known of those before it.
 use native.Mathlib.Omega.{arith}
-use mathlib.Core.Path.{ap, _∙_}
-use lib.Bits.{bitAnd}
 use Rattle.sets.specs.Words.{mask, masks}
 use Rattle.sets.specs.WalkLaws.{walk-falls, walk-member, walk-below, walk-goes-on, walk-over}
-use Rattle.search.specs.Survey.{Surveyed, survey-none, survey-few, survey-many, survey-most}
+use Rattle.search.specs.Survey.{Surveyed, survey-none, survey-same, survey-more}
 use Rattle.search.proofs.survey.survey.Statement.{statement}
 use Rattle.search.proofs.survey.survey.Tie as tie
 
@@ -36,52 +34,34 @@ rest-requires : tie.Need-rest-requires Inv-loop μ-loop
 rest-requires c κs = c .lowest .ensures
 
 missing-requires : tie.Need-missing-requires Inv-loop μ-loop
-missing-requires c κs =
-    let turn = c .before .before .before .before in
-    walk-below _ _ _ _ (turn .before .before .before .before .before .pre .below) (turn .loop .inv .bounded .part) (c .before .lowest .ensures)
+missing-requires c κs = walk-below _ _ _ _ (c .before .before .before .before .before .before .before .before .before .pre .below) (c .before .before .before .before .loop .inv .bounded .part) (c .before .lowest .ensures)
 
 get-requires : tie.Need-get-requires Inv-loop μ-loop
-get-requires c κs =
-    let turn = c .before .before .before .before .before .before in
-    walk-below _ _ _ _ (turn .before .before .before .before .before .pre .below) (turn .loop .inv .bounded .part) (c .before .before .before .lowest .ensures)
+get-requires c κs = walk-below _ _ _ _ (c .before .before .before .before .before .before .before .before .before .before .pre .below) (c .before .before .before .before .before .loop .inv .bounded .part) (c .before .before .lowest .ensures)
 
-meet-requires : tie.Need-meet-requires Inv-loop μ-loop
-meet-requires c κs = tt
+narrow-requires : tie.Need-narrow-requires Inv-loop μ-loop
+narrow-requires c κs = tt
 
 loop-less : tie.Need-loop-less Inv-loop μ-loop
-loop-less c = walk-falls _ _ _ (c .before .before .before .before .before .before .lowest .ensures) (c .before .before .before .before .before .rest .ensures)
+loop-less c = walk-falls _ _ _ (c .before .before .before .before .before .lowest .ensures) (c .before .before .before .before .rest .ensures)
 
 loop-again : tie.Need-loop-again Inv-loop μ-loop
 loop-again c =
-    let rest = c .before .before .before .before .before in
-    let turn = rest .before .before .before .before in
-    survey-most _ _ _ _ _ _ _ _ _ (rest .rest .ensures) (turn .loop .inv) _ (c .before .meet .ensures ∙ ap (bitAnd (mask _)) (c .before .before .get .ensures))
-    (walk-below _ _ _ _ (turn .before .before .before .before .before .pre .below) (turn .loop .inv .bounded .part) (rest .before .lowest .ensures))
-    (walk-member _ _ _ (turn .loop .inv .bounded .part) (rest .before .lowest .ensures))
-    (omega arith) _ (c .before .before .before .before .missing .ensures .0) (c .if3 .taken)
+    survey-more _ _ _ _ _ _ _ _ _ (c .before .before .before .before .rest .ensures) (c .before .before .before .before .before .before .before .before .loop .inv) _ _ _ (c .before .before .before .missing .ensures .0) (c .before .before .get .ensures)
+    (walk-below _ _ _ _ (c .before .before .before .before .before .before .before .before .before .before .before .before .before .pre .below) (c .before .before .before .before .before .before .before .before .loop .inv .bounded .part) (c .before .before .before .before .before .lowest .ensures)) (walk-member _ _ _ (c .before .before .before .before .before .before .before .before .loop .inv .bounded .part) (c .before .before .before .before .before .lowest .ensures))
+    (c .before .narrow .ensures) (c .if2 .taken)
 
 loop-less-2 : tie.Need-loop-less-2 Inv-loop μ-loop
-loop-less-2 c = walk-falls _ _ _ (c .before .before .before .before .before .before .lowest .ensures) (c .before .before .before .before .before .rest .ensures)
+loop-less-2 c = walk-falls _ _ _ (c .before .before .before .before .before .lowest .ensures) (c .before .before .before .before .rest .ensures)
 
 loop-again-2 : tie.Need-loop-again-2 Inv-loop μ-loop
 loop-again-2 c =
-    let rest = c .before .before .before .before .before in
-    let turn = rest .before .before .before .before in
-    survey-many _ _ _ _ _ _ _ _ _ (rest .rest .ensures) (turn .loop .inv) _ (c .before .meet .ensures ∙ ap (bitAnd (mask _)) (c .before .before .get .ensures))
-    (walk-below _ _ _ _ (turn .before .before .before .before .before .pre .below) (turn .loop .inv .bounded .part) (rest .before .lowest .ensures))
-    (walk-member _ _ _ (turn .loop .inv .bounded .part) (rest .before .lowest .ensures)) (omega arith) (omega arith)
-
-loop-less-3 : tie.Need-loop-less-3 Inv-loop μ-loop
-loop-less-3 c = walk-falls _ _ _ (c .before .before .before .lowest .ensures) (c .before .before .rest .ensures)
-
-loop-again-3 : tie.Need-loop-again-3 Inv-loop μ-loop
-loop-again-3 c =
-    survey-few _ _ _ _ _ _ _ _ _ (c .before .before .rest .ensures) (c .before .before .before .before .before .before .loop .inv) (omega arith)
+    survey-same _ _ _ _ _ _ _ _ _ (c .before .before .before .before .rest .ensures) (c .before .before .before .before .before .before .before .before .loop .inv) _ _ _ (c .before .before .before .missing .ensures .0) (c .before .before .get .ensures)
+    (walk-below _ _ _ _ (c .before .before .before .before .before .before .before .before .before .before .before .before .before .pre .below) (c .before .before .before .before .before .before .before .before .loop .inv .bounded .part) (c .before .before .before .before .before .lowest .ensures)) (walk-member _ _ _ (c .before .before .before .before .before .before .before .before .loop .inv .bounded .part) (c .before .before .before .before .before .lowest .ensures))
+    (c .before .narrow .ensures) (c .if2 .left)
 
 returns : tie.Need-returns Inv-loop μ-loop
-returns c =
-    let end = c .before .before .loop in
-    rw (walk-over (c .before .is-empty .result) (mask (end .left)) (c .before .is-empty .ensures) (c .if1 .left)) at (end .inv)
+returns c = rw (walk-over (c .before .is-empty .result) (mask (c .before .before .loop .left)) (c .before .is-empty .ensures) (c .if1 .left)) at (c .before .before .loop .inv)
 
 pub survey-spec : {M : Type 1} → statement M
 survey-spec =
@@ -98,11 +78,9 @@ survey-spec =
     rest-requires
     missing-requires
     get-requires
-    meet-requires
+    narrow-requires
     loop-less
     loop-again
     loop-less-2
     loop-again-2
-    loop-less-3
-    loop-again-3
     returns)
