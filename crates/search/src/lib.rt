@@ -39,10 +39,12 @@ pub struct Cuts {
     pub pivot: bool,
 }
 
-// From so many slots on the order in which masks are found matters, and so deep below the top it is kept.
+// From so many slots on the order in which masks are found matters, and so deep below the top it is kept: deeper for cliques, which cost less to find.
 const MANY_SLOTS: usize = 16384;
 
 const DEEP: usize = 20;
+
+const DEEP_CLIQUES: usize = 28;
 
 // The vertices to start from: the core, or all.
 pub fn candidates(rows: &[u64], k: usize, q: usize, core: bool) -> Set
@@ -56,11 +58,15 @@ pub fn candidates(rows: &[u64], k: usize, q: usize, core: bool) -> Set
 }
 
 // Above how many candidates the search branches on the highest, for so many slots and candidates at the top: where few masks are stored, never.
-fn spread(room: usize, n: usize) -> usize {
-    if room < MANY_SLOTS || n < DEEP {
+fn spread(room: usize, n: usize, k: usize) -> usize {
+    let mut deep = DEEP;
+    if k == 1 {
+        deep = DEEP_CLIQUES;
+    }
+    if room < MANY_SLOTS || n < deep {
         return sets::WIDTH;
     }
-    n - DEEP
+    n - deep
 }
 
 // The same for slack 1, by a pivot.
@@ -80,7 +86,7 @@ pub fn enumerate(rows: &[u64], k: usize, q: usize, cuts: Cuts, slots: &mut [u64]
     ensures { λ r. ⌜ Adds (2 ^ length (masks (now (rows .entry)))) (listed (masks (now (rows .entry))) k q) (masks (now (slots .entry))) 0 (masks (now (slots .exit))) r ⌝ }
 {
     let all = candidates(rows, k, q, cuts.core);
-    let wide = spread(sets::count(slots), sets::size(all));
+    let wide = spread(sets::count(slots), sets::size(all), k);
     if cuts.pivot {
         if k == 1 {
             return enumerate_cliques(rows, q, wide, all, slots);
