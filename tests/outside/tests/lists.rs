@@ -218,9 +218,8 @@ fn the_slots_decide_nothing() {
         if want.len() > 3000 {
             continue;
         }
-        let garbage: Vec<u64> = (0..want.len() + 5)
-            .map(|_| if rng.chance(0.5) { rng.word() } else { want.get(rng.below(want.len() + 1)).copied().unwrap_or(0) })
-            .collect();
+        let garbage: Vec<u64> =
+            (0..want.len() + 5).map(|_| if rng.chance(0.5) { rng.word() } else { want.get(rng.below(want.len() + 1)).copied().unwrap_or(0) }).collect();
         let mut slots = garbage.clone();
         assert_eq!(list(&rows, k, q, &mut slots), success(want.len(), 0));
         assert_eq!(slots[..want.len()], want);

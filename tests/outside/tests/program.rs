@@ -103,11 +103,7 @@ fn random_bytes() {
         let bytes: Vec<u8> = match rng.below(3) {
             0 => (0..length).map(|_| rng.word() as u8).collect(),
             1 => (0..length).map(|_| b"0123456789ABCDEF\n"[rng.below(17)]).collect(),
-            _ => format!("{:02X}0101\n", rng.below(66))
-                .into_bytes()
-                .into_iter()
-                .chain((0..length).map(|i| if i % 17 == 16 { 10 } else { 48 }))
-                .collect(),
+            _ => format!("{:02X}0101\n", rng.below(66)).into_bytes().into_iter().chain((0..length).map(|i| if i % 17 == 16 { 10 } else { 48 })).collect(),
         };
         hold(&program, &bytes);
     }
