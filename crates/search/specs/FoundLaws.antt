@@ -105,6 +105,13 @@ module _ (g : List ℕ) (k q s c v r : ℕ) (e : In v c) (out : bit s v ≡ 0) (
       grown : Sub (with s v) x
       grown = with-sub s v x (f .lower) i
 
+      untrimmed : Found g k q (with s v) (without c v) x
+      untrimmed = record { lower = grown; upper = λ u. within u (ℕ-discrete v u); listed = f .listed }
+        where
+          within : (u : ℕ) → Dec (v ≡ u) → bit x u ≤ bit (bitOr (with s v) (without c v)) u
+          within u (yes z) = subst (λ (y : ℕ). bit x y ≤ bit (bitOr (with s v) (without c v)) y) z (omega (arith, bit-or (with s v) (without c v) v, with-same s v, bit-le x v))
+          within u (no nz) = omega (arith, f .upper u, bit-or s c u, bit-or (with s v) (without c v) u, with-other s v u nz, without-other c v u nz)
+
       go : (u : ℕ) → Dec (bit x u ≡ 1) → Dec (v ≡ u) → bit x u ≤ bit (bitOr (with s v) r) u
       go u (no nh) d = omega (arith, bit-le x u)
       go u (yes h) (yes z) = subst (λ (y : ℕ). bit x y ≤ bit (bitOr (with s v) r) y) z (omega (arith, bit-or (with s v) r v, with-same s v, bit-le x v))
@@ -112,7 +119,7 @@ module _ (g : List ℕ) (k q s c v r : ℕ) (e : In v c) (out : bit s v ≡ 0) (
         where
           side : Dec (bit c u ≡ 1) → bit x u ≤ bit (bitOr (with s v) r) u
           side (yes m) =
-              omega (arith, bit-or (with s v) r u, kept .keeps x (f .listed) grown u h (omega (arith, without-other c v u nz)), bit-le x u)
+              omega (arith, bit-or (with s v) r u, kept .keeps x untrimmed u h (omega (arith, without-other c v u nz)), bit-le x u)
           side (no nm) = omega (arith, bit-or (with s v) r u, with-other s v u nz, f .upper u, bit-or s c u, bit-le c u)
 
   pub found-with : (x : ℕ) → Found g k q (with s v) r x → Found g k q s c x

@@ -13,6 +13,7 @@ pub mod Partition
 pub mod PartitionLaws
 pub mod NearRows
 pub mod NearLaws
+pub mod SiftLaws
 pub mod Ready
 pub mod Calls
 pub mod Cliques

@@ -30,6 +30,7 @@ use Rattle.search.specs.Partition.{Between}
 use Rattle.search.specs.Placing.{number, union, only, Adds}
 use Rattle.search.specs.PlacingLaws.{same-test, number-same, number-only, number-union, adds-none, adds-same, adds-both}
 use Rattle.search.specs.TrimLaws.{Joinable, Beside, trimmed-compatible}
+use Rattle.search.specs.SiftLaws.{Siftable}
 
 pub record Settled (g t : List ℕ) (k q : ℕ) : Type 0 where
   pub some : 1 ≤ length g
@@ -127,6 +128,20 @@ module _ (g t : List ℕ) (k q s c count : ℕ) (h : Ready g t k q s c count) wh
           candidates = h .fine .candidates;
           apart = h .fine .apart;
           member = i;
+        }
+
+    pub ready-siftable : (d : ℕ) → Beside g k q s c v d → Siftable g k q s c v d
+    ready-siftable d b =
+        record {
+          some = h .settled .some;
+          most = h .settled .most;
+          valid = h .settled .valid;
+          slack = omega (arith, h .settled .slack .1);
+          floor = h .settled .floor;
+          below = h .fine .below;
+          candidates = h .fine .candidates;
+          member = i;
+          beside = b;
         }
 
     module _ (r : ℕ) (m : Beside g k q s c v r) where

@@ -1,6 +1,6 @@
 -- Laws of trimming: a candidate that no listed plex holds beside the set s may go, and what stays is compatible with s.
 --
---   Kept g k q s c r       r is c less some vertices that no listed plex that holds s has
+--   Kept g k q s c r       r is c less some vertices that no listed plex between s and s with c has
 --   Blocked g k s v r      a member of s that v is not adjacent to and that misses k or more of s is adjacent to all of r
 --   Cheap g k s v r        a vertex of r that v is not adjacent to misses fewer than k of s
 use Prim.Native.Nat.{ℕ, _^_, _≤_, _<_}
@@ -9,12 +9,12 @@ use native.Mathlib.Decide.{ℕ-discrete, decLt}
 use mathlib.Core.Path.{_≡_, sym, subst}
 use mathlib.Core.Logic.{_≢_}
 use mathlib.Core.List.{List}
-use lib.Bits.{bitAnd}
+use lib.Bits.{bitAnd, bitOr}
 use lib.ListN.{length}
 use Rattle.sets.specs.Set.{bit, In, Sub, with, without, minus}
 use Rattle.sets.specs.Graph.{row}
 use Rattle.sets.specs.Words.{width}
-use Rattle.sets.specs.BitLaws.{bit-le, bit-and, bit-minus}
+use Rattle.sets.specs.BitLaws.{bit-le, bit-and, bit-or, bit-minus}
 use Rattle.sets.specs.SubsetLaws.{sub-refl, sub-trans, sub-below, with-sub, with-same, with-other, with-below, sub-with, in-of-sub, in-below, without-same, without-other, minus-sub}
 use Rattle.sets.specs.SizeLaws.{and-below, minus-below}
 use Rattle.sets.specs.WalkLaws.{Walked, walk-none, walk-next, walk-map, walk-all}
@@ -22,11 +22,11 @@ use Rattle.judging.specs.Graph.{missing, Valid}
 use Rattle.judging.specs.Plex.{Plex}
 use Rattle.judging.specs.GraphLaws.{missing-mono, missing-with}
 use Rattle.search.specs.Listing.{Listed}
-use Rattle.search.specs.Found.{Compatible, Near}
+use Rattle.search.specs.Found.{Found, Compatible, Near}
 
 pub record Kept (g : List ℕ) (k q s c r : ℕ) : Type 0 where
   pub part : Sub r c
-  pub keeps : (x : ℕ) → Listed g k q x → Sub s x → (u : ℕ) → In u x → In u c → In u r
+  pub keeps : (x : ℕ) → Found g k q s c x → (u : ℕ) → In u x → In u c → In u r
 
 abbrev pub Blocked : List ℕ → ℕ → ℕ → ℕ → ℕ → Type 0
 Blocked g k s v r = (u : ℕ) → In u s → bit (row g v) u ≡ 0 → k ≤ missing g s u → Sub r (row g u)
@@ -42,17 +42,25 @@ pub record Beside (g : List ℕ) (k q s c v r : ℕ) : Type 0 where
 
 module _ (g : List ℕ) (k q s : ℕ) where
   pub kept-all : (c : ℕ) → Kept g k q s c c
-  kept-all c = record { part = sub-refl c; keeps = λ x h i u e m. m }
+  kept-all c = record { part = sub-refl c; keeps = λ x f u e m. m }
 
   pub kept-trans : (c d r : ℕ) → Kept g k q s c d → Kept g k q s d r → Kept g k q s c r
-  kept-trans c d r a b = record { part = sub-trans r d c (b .part) (a .part); keeps = λ x h i u e m. b .keeps x h i u e (a .keeps x h i u e m) }
+  kept-trans c d r a b = record { part = sub-trans r d c (b .part) (a .part); keeps = λ x f u e m. b .keeps x (within x f) u e (a .keeps x f u e m) }
+    where
+      within : (x : ℕ) → Found g k q s c x → Found g k q s d x
+      within x f = record { lower = f .lower; upper = λ u. go u (ℕ-discrete (bit x u) 1) (ℕ-discrete (bit c u) 1); listed = f .listed }
+        where
+          go : (u : ℕ) → Dec (bit x u ≡ 1) → Dec (bit c u ≡ 1) → bit x u ≤ bit (bitOr s d) u
+          go u (no n) m = omega (arith, bit-le x u)
+          go u (yes i) (yes m) = omega (arith, a .keeps x f u i m, bit-or s d u, bit-le x u)
+          go u (yes i) (no n) = omega (arith, f .upper u, bit-or s c u, bit-or s d u, bit-le c u)
 
   -- candidates outside the near row of a member may go
   pub kept-near : (t : List ℕ) (c v : ℕ) → v < length g → In v s → bit c v ≡ 0 → Near g k q t → Kept g k q s c (bitAnd c (row t v))
   kept-near t c v l e out near =
       record {
         part = λ u. omega (arith, bit-and c (row t v) u);
-        keeps = λ x h i u eu m. omega (arith, bit-and c (row t v) u, m, near v x l h (in-of-sub s x v i e) u eu (λ q. differ u m q));
+        keeps = λ x f u eu m. omega (arith, bit-and c (row t v) u, m, near v x l (f .listed) (in-of-sub s x v (f .lower) e) u eu (λ q. differ u m q));
       }
     where
       differ : (u : ℕ) → In u c → u ≡ v → ⊥
@@ -79,7 +87,7 @@ module _ (g : List ℕ) (k q s : ℕ) where
     kept-meet d u p e m =
         record {
           part = λ w. omega (arith, bit-and d (row g u) w);
-          keeps = λ x h i w ew md. omega (arith, bit-and d (row g u) w, md, saturated-adjacent x w h i ew (apart w (in-of-sub d c w p md)) u e m);
+          keeps = λ x f w ew md. omega (arith, bit-and d (row g u) w, md, saturated-adjacent x w (f .listed) (f .lower) ew (apart w (in-of-sub d c w p md)) u e m);
         }
 
     -- and so may a candidate that misses k or more
@@ -87,7 +95,7 @@ module _ (g : List ℕ) (k q s : ℕ) where
     kept-without d w ok p m =
         record {
           part = minus-sub d (2 ^ w);
-          keeps = λ x h i y e md. go x h i y e md (ℕ-discrete w y);
+          keeps = λ x f y e md. go x (f .listed) (f .lower) y e md (ℕ-discrete w y);
         }
       where
         go : (x : ℕ) → Listed g k q x → Sub s x → (y : ℕ) → In y x → In y d → Dec (w ≡ y) → In y (without d w)

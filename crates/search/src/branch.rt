@@ -21,7 +21,7 @@ pub fn leaf(rows: &[u64], k: usize, a: Set, free: Set, slots: &mut [u64], count:
 }
 
 // Places every listed plex that holds s and has no member outside s and c, and gives the new count.
-// The switches are the partition bound, the swallow test and the second bound. While more than `wide` candidates are left the highest is branched on:
+// The switches are the partition bound, the swallow test and the second bound; candidates are sifted by pairs for the next `few` vertices taken. While more than `wide` candidates are left the highest is branched on:
 // the branch without it comes first, so the masks come almost in rising order, and placing them moves little.
 pub fn branch(
     rows: &[u64],
@@ -32,6 +32,7 @@ pub fn branch(
     swallow: bool,
     second: bool,
     wide: usize,
+    few: usize,
     s: Set,
     c: Set,
     slots: &mut [u64],
@@ -60,7 +61,8 @@ pub fn branch(
     }
     let v = crate::choice::choose(rows, a, c, from, wide);
     let rest = sets::without(c, v);
-    let kept = crate::trim::beside(rows, near, k, s, c, v);
+    let close = crate::trim::beside(rows, near, k, s, c, v);
+    let kept = crate::trim::sift(rows, k, q, few, s, c, v, close);
     let others = branch(
         rows,
         near,
@@ -70,6 +72,7 @@ pub fn branch(
         swallow,
         second,
         wide,
+        few,
         s,
         rest,
         slots,
@@ -88,6 +91,7 @@ pub fn branch(
         swallow,
         second,
         wide,
+        crate::trim::fewer(few),
         joined,
         kept,
         slots,

@@ -69,6 +69,14 @@ fn spread(room: usize, n: usize, k: usize) -> usize {
     n - deep
 }
 
+// For how many vertices taken the candidates are sifted by pairs.
+fn sifted(pairs: bool) -> usize {
+    if pairs {
+        return 3;
+    }
+    0
+}
+
 // The same for slack 1, by a pivot.
 fn enumerate_cliques(rows: &[u64], q: usize, wide: usize, all: Set, slots: &mut [u64]) -> usize
     requires { ⌜ Accepted (masks (now rows)) 1 q × Candidates (masks (now rows)) 1 q (mask all) ⌝ }
@@ -93,7 +101,15 @@ pub fn enumerate(rows: &[u64], k: usize, q: usize, cuts: Cuts, slots: &mut [u64]
         }
     }
     let mut near = [0u64; sets::WIDTH];
-    near::fill(rows, k, q, all, cuts.reach, cuts.pairs, &mut near);
+    near::fill(
+        rows,
+        k,
+        q,
+        all,
+        cuts.reach,
+        cuts.pairs && 2 * k <= q,
+        &mut near,
+    );
     branch::branch(
         rows,
         &near,
@@ -103,6 +119,7 @@ pub fn enumerate(rows: &[u64], k: usize, q: usize, cuts: Cuts, slots: &mut [u64]
         cuts.swallow,
         cuts.second,
         wide,
+        sifted(cuts.pairs),
         sets::empty(),
         all,
         slots,

@@ -1,6 +1,7 @@
 // Candidates that no listed plex holds beside the set s, to which v came last, are dropped.
 ghost use Rattle.sets.specs.Words.{mask, masks};
 ghost use Rattle.search.specs.TrimLaws.{Trimmable, Unblocked, Cheapened, Joinable, Beside};
+ghost use Rattle.search.specs.SiftLaws.{Siftable};
 ghost use Rattle.search.specs.Found.{Near};
 ghost use Prim.Native.Nat.{ℕ};
 use sets::Set;
@@ -48,4 +49,34 @@ pub fn beside(rows: &[u64], near: &[u64], k: usize, s: Set, c: Set, v: usize) ->
     let joined = sets::with(s, v);
     let close = sets::meet(sets::without(c, v), sets::get(near, v));
     drop_dear(rows, k, joined, drop_blocked(rows, k, joined, close, v), v)
+}
+
+// Of `close`, what `beside` left, those that are close to v among s, v and `close` itself: while few vertices are taken, `few` more to be sifted for, this
+// drops many, and later it costs more than it saves.
+pub fn sift(
+    rows: &[u64],
+    k: usize,
+    q: usize,
+    few: usize,
+    s: Set,
+    c: Set,
+    v: usize,
+    close: Set,
+) -> Set
+    requires { ⌜ Siftable (masks (now rows)) k q (mask s) (mask c) v (mask close) ⌝ }
+    ensures { λ r. ⌜ Beside (masks (now (rows .entry))) k q (mask s) (mask c) v (mask r) ⌝ }
+{
+    if few == 0 {
+        return close;
+    }
+    let all = sets::join(sets::with(s, v), close);
+    crate::near::pair_row(rows, k, q, all, close, v)
+}
+
+// The count of those to be sifted for, once one more is taken.
+pub fn fewer(few: usize) -> usize {
+    if few == 0 {
+        return 0;
+    }
+    few - 1
 }

@@ -1,5 +1,6 @@
 -- `search::enumerate` meets its contract: from the candidates on, all that is listed is found.
 use Prim.Native.Nat.{ℕ, _^_, _≤_}
+use native.Mathlib.Omega.{arith}
 use mathlib.Core.Path.{refl, sym, subst}
 use borrow.Author.Needs.{needs}
 use denote.Ref.{now}
@@ -8,7 +9,6 @@ use Rattle.sets.specs.Words.{mask, masks}
 use Rattle.search.specs.Listing.{listed}
 use Rattle.search.specs.Placing.{Adds}
 use Rattle.search.specs.TopLaws.{Accepted, Candidates, table-room, start-pairing, start-ready, start-adds}
-use borrow.Author.Needs.{needs}
 use Rattle.search.proofs.enumerate.Statement.{statement}
 use Rattle.search.proofs.enumerate.Tie as tie
 
@@ -38,28 +38,34 @@ returns c =
     subst (λ (k : ℕ). Adds (2 ^ length (masks (now (c .before .before .before .before .before .before .before .before .before .before .before .before .before .args .rows)))) (listed (masks (now (c .before .before .before .before .before .before .before .before .before .before .before .before .before .args .rows))) k (c .before .before .before .before .before .before .before .before .before .before .before .before .before .args .q)) (masks (now (c .before .before .before .before .before .before .before .before .before .before .before .before .before .args .slots))) 0 (masks (c .before .before .enumerate-cliques .last .1 .1 .1 .1 .0)) (c .before .before .enumerate-cliques .result)) (sym (c .before .before .before .before .if2 .taken))
     (c .before .before .enumerate-cliques .ensures)
 
+mul-fill : tie.Need-mul-fill
+mul-fill c = omega (arith, c .before .before .before .before .before .before .before .before .before .pre .slack .1)
+
 slice-aggregate-fill : tie.Need-slice-aggregate-fill
 slice-aggregate-fill c = search needs
 
 fill-requires : tie.Need-fill-requires
-fill-requires c κs = (record { sized = c .before .before .before .before .before .before .before .before .before .pre .sized; room = table-room _ _ (c .before .before .before .before .before .before .before .before .before .pre .sized) refl }, start-pairing _ _ _ _ (c .before .before .before .before .before .before .before .before .before .pre) (c .before .before .before .before .before .before .candidates .ensures), c .before .before .before .before .before .before .before .before .before .pre .floor .0)
+fill-requires c κs = (record { sized = c .before .before .before .before .before .before .before .before .before .before .pre .sized; room = table-room _ _ (c .before .before .before .before .before .before .before .before .before .before .pre .sized) refl }, start-pairing _ _ _ _ (c .before .before .before .before .before .before .before .before .before .before .pre) (c .before .before .before .before .before .before .before .candidates .ensures), c .before .before .before .before .before .before .before .before .before .before .pre .floor .0)
 
 slice-aggregate-branch : tie.Need-slice-aggregate-branch
 slice-aggregate-branch c = search needs
+
+sifted-requires : tie.Need-sifted-requires
+sifted-requires c κs = search needs
 
 empty-requires : tie.Need-empty-requires
 empty-requires c κs = search needs
 
 branch-requires : tie.Need-branch-requires
 branch-requires c κs =
-    start-ready _ _ _ _ _ _ (c .before .empty .ensures) (c .before .before .before .before .before .before .before .before .before .before .before .before .before .before .pre) (c .before .before .before .before .before .before .before .before .before .before .before .candidates .ensures)
-    (subst (λ (n : ℕ). length (masks (now (c .before .before .before .before .before .before .before .before .before .before .before .before .before .before .args .rows))) ≤ n) (sym (c .before .before .before .before .fill .ensures .long)) (table-room _ _ (c .before .before .before .before .before .before .before .before .before .before .before .before .before .before .pre .sized) refl)) (c .before .before .before .before .fill .ensures .near)
+    start-ready _ _ _ _ _ _ (c .before .empty .ensures) (c .before .before .before .before .before .before .before .before .before .before .before .before .before .before .before .before .pre) (c .before .before .before .before .before .before .before .before .before .before .before .before .before .candidates .ensures)
+    (subst (λ (n : ℕ). length (masks (now (c .before .before .before .before .before .before .before .before .before .before .before .before .before .before .before .before .args .rows))) ≤ n) (sym (c .before .before .before .before .before .fill .ensures .long)) (table-room _ _ (c .before .before .before .before .before .before .before .before .before .before .before .before .before .before .before .before .pre .sized) refl)) (c .before .before .before .before .before .fill .ensures .near)
 
 same-length-2 : tie.Need-same-length-2
 same-length-2 c = search needs
 
 returns-2 : tie.Need-returns-2
-returns-2 c = start-adds _ _ _ _ _ (c .before .before .before .before .empty .ensures) (c .before .before .before .before .before .before .before .before .before .before .before .before .before .before .candidates .ensures) _ _ _ (c .before .before .branch .ensures)
+returns-2 c = start-adds _ _ _ _ _ (c .before .before .before .before .empty .ensures) (c .before .before .before .before .before .before .before .before .before .before .before .before .before .before .before .before .candidates .ensures) _ _ _ (c .before .before .branch .ensures)
 
 pub enumerate-spec : {M : Type 1} → statement M
 enumerate-spec =
@@ -72,9 +78,11 @@ enumerate-spec =
     enumerate-cliques-requires
     same-length
     returns
+    mul-fill
     slice-aggregate-fill
     fill-requires
     slice-aggregate-branch
+    sifted-requires
     empty-requires
     branch-requires
     same-length-2

@@ -7,14 +7,11 @@ use mathlib.Core.Path.{refl, sym, _∙_}
 use native.Mathlib.Omega.{arith}
 use borrow.Author.Needs.{needs}
 use borrow.Author.Tests.{eqb-true, eqb-false}
-use denote.Ref.{now}
-use lib.ListN.{length}
-use Rattle.sets.specs.Words.{mask, masks}
+use Rattle.sets.specs.Words.{mask}
 use Rattle.sets.specs.SubsetLaws.{in-below, sub-below, positive-of}
 use Rattle.search.specs.PlacingLaws.{adds-same}
-use Rattle.search.specs.TrimLaws.{Beside}
 use Rattle.search.specs.Survey.{survey-plex, survey-free}
-use Rattle.search.specs.Ready.{ready-between, ready-inside, ready-joinable, short-adds, swallowed-adds, stuck-adds, leaf-adds, leaf-room, with-boundable, with-ready, with-falls, without-falls, without-ready, without-adds, branches-add}
+use Rattle.search.specs.Ready.{ready-between, ready-inside, ready-joinable, ready-siftable, short-adds, swallowed-adds, stuck-adds, leaf-adds, leaf-room, with-boundable, with-ready, with-falls, without-falls, without-ready, without-adds, branches-add}
 use Rattle.search.proofs.branch.branch.Reads as branch
 use Rattle.search.proofs.branch.branch.Kinds as branch-kinds
 use Rattle.search.proofs.branch.+branch.Lts-branch as branch-lts
@@ -26,6 +23,8 @@ use Rattle.search.proofs.cut.is_short.Reads as is-short-reads
 use Rattle.search.proofs.cut.is_swallowed.Reads as is-swallowed-reads
 use Rattle.search.proofs.survey.survey.Reads as survey-reads
 use Rattle.search.proofs.trim.beside.Reads as beside-reads
+use Rattle.search.proofs.trim.fewer.Reads as fewer-reads
+use Rattle.search.proofs.trim.sift.Reads as sift-reads
 use Rattle.sets.proofs.is_empty.Reads as is-empty-reads
 use Rattle.sets.proofs.join.Reads as join-reads
 use Rattle.sets.proofs.with.Reads as with-reads
@@ -34,7 +33,7 @@ use Rattle.search.proofs.branch.+branch.{statement}
 use Rattle.search.proofs.branch.+branch.Tie.{close}
 
 abbrev μ-branch : Measures 3 branch-kinds.ps ℕ
-μ-branch κs a = mask (a .1 .1 .1 .1 .1 .1 .1 .1 .1 .0)
+μ-branch κs a = mask (a .1 .1 .1 .1 .1 .1 .1 .1 .1 .1 .0)
 
 abbrev branch-at : ℕ → In 3 branch-kinds.ps
 branch-at t = and 3 branch-kinds.ps (is 3 branch-kinds.ps μ-branch t) branch.Pre
@@ -65,12 +64,16 @@ calls t = (
   without-reads.Learnt,
   beside-reads.Asked,
   beside-reads.Learnt,
+  sift-reads.Asked,
+  sift-reads.Learnt,
   branch-below t,
   branch.Post,
   is-bounded-reads.Asked,
   is-bounded-reads.Learnt,
   with-reads.Asked,
   with-reads.Learnt,
+  fewer-reads.Asked,
+  fewer-reads.Learnt,
 )
 
 module _ (t : ℕ) where
@@ -98,9 +101,7 @@ module _ (t : ℕ) where
   same-length c = search needs
 
   returns-2 : branch-lts.Need-returns-2 (calls t) (branch-at t) branch.Post
-  returns-2 c =
-      adds-same _ _ _ _ _ _ _ (leaf-adds _ _ _ _ _ _ _ (c .before .before .before .before .before .before .before .before .before .before .before .before .before .pre .1) _ (c .before .before .before .before .before .before .before .before .before .join .ensures) (survey-plex _ _ _ 0 _ _ _ refl (c .before .before .before .before .before .before .survey .ensures) (c .before .before .before .before .if2 .taken)) (c .before .before .before .before .before .before .before .before .is-short .ensures .1 (c .before .before .before .before .before .before .before .if1 .left)))
-      (c .before .before .leaf .ensures)
+  returns-2 c = adds-same _ _ _ _ _ _ _ (leaf-adds _ _ _ _ _ _ _ (c .before .before .before .before .before .before .before .before .before .before .before .before .before .pre .1) _ (c .before .before .before .before .before .before .before .before .before .join .ensures) (survey-plex _ _ _ 0 _ _ _ refl (c .before .before .before .before .before .before .survey .ensures) (c .before .before .before .before .if2 .taken)) (c .before .before .before .before .before .before .before .before .is-short .ensures .1 (c .before .before .before .before .before .before .before .if1 .left))) (c .before .before .leaf .ensures)
 
   is-swallowed-requires : branch-lts.Need-is-swallowed-requires (calls t) (branch-at t) branch.Post
   is-swallowed-requires c κs = survey-free _ _ _ 0 _ _ _ refl (c .before .before .survey .ensures)
@@ -133,62 +134,47 @@ module _ (t : ℕ) where
         part = c .before .before .among .ensures .part;
       }
 
-  -- the vertex chosen
-  vertex : (c : branch-lts.After-choose (calls t) (branch-at t) branch.Post) → c .choose .result < length (masks (now (c .before .before .before .before .before .before .before .before .before .before .before .before .before .before .before .args .rows)))
-  vertex c = in-below _ _ _ ((c .before .before .before .before .before .before .before .before .before .before .before .before .before .before .before .pre .1) .fine .candidates) (c .choose .ensures)
-
   without-requires : branch-lts.Need-without-requires (calls t) (branch-at t) branch.Post
-  without-requires c κs = omega (arith, vertex c, (c .before .before .before .before .before .before .before .before .before .before .before .before .before .before .before .pre .1) .settled .most)
+  without-requires c κs = omega (arith, in-below _ _ _ ((c .before .before .before .before .before .before .before .before .before .before .before .before .before .before .before .pre .1) .fine .candidates) (c .choose .ensures), (c .before .before .before .before .before .before .before .before .before .before .before .before .before .before .before .pre .1) .settled .most)
 
   beside-requires : branch-lts.Need-beside-requires (calls t) (branch-at t) branch.Post
   beside-requires c κs = ready-joinable _ _ _ _ _ _ _ (c .before .before .before .before .before .before .before .before .before .before .before .before .before .before .before .before .pre .1) _ (c .before .choose .ensures)
 
-  -- what is left of the candidates beside it
-  left-beside : (c : branch-lts.After-beside (calls t) (branch-at t) branch.Post)
-      → Beside (masks (now (c .before .before .before .before .before .before .before .before .before .before .before .before .before .before .before .before .before .args .rows))) (c .before .before .before .before .before .before .before .before .before .before .before .before .before .before .before .before .before .args .k) (c .before .before .before .before .before .before .before .before .before .before .before .before .before .before .before .before .before .args .q) (mask (c .before .before .before .before .before .before .before .before .before .before .before .before .before .before .before .before .before .args .s)) (mask (c .before .before .before .before .before .before .before .before .before .before .before .before .before .before .before .before .before .args .c)) (c .before .before .choose .result) (mask (c .beside .result))
-  left-beside c = c .beside .ensures (c .before .before .before .before .before .before .before .before .before .before .before .before .before .before .before .before .before .args .q) ((c .before .before .before .before .before .before .before .before .before .before .before .before .before .before .before .before .before .pre .1) .settled .near)
+  sift-requires : branch-lts.Need-sift-requires (calls t) (branch-at t) branch.Post
+  sift-requires c κs = ready-siftable _ _ _ _ _ _ _ (c .before .before .before .before .before .before .before .before .before .before .before .before .before .before .before .before .before .pre .1) _ (c .before .before .choose .ensures) _ (c .beside .ensures _ ((c .before .before .before .before .before .before .before .before .before .before .before .before .before .before .before .before .before .pre .1) .settled .near))
 
   branch-requires : branch-lts.Need-branch-requires (calls t) (branch-at t) branch.Post
-  branch-requires c κs =
-      let r = c .before in
-      let i = r .before .before .choose .ensures in (
-        omega (arith, without-falls _ _ _ _ _ _ _ (c .before .before .before .before .before .before .before .before .before .before .before .before .before .before .before .before .before .before .pre .1) _ i _ (left-beside r) _ (r .before .without .ensures), c .before .before .before .before .before .before .before .before .before .before .before .before .before .before .before .before .before .before .pre .0),
-        without-ready _ _ _ _ _ _ _ (c .before .before .before .before .before .before .before .before .before .before .before .before .before .before .before .before .before .before .pre .1) _ i _ (left-beside r) _ (r .before .without .ensures),
-      )
+  branch-requires c κs = (
+    omega (arith, without-falls _ _ _ _ _ _ _ (c .before .before .before .before .before .before .before .before .before .before .before .before .before .before .before .before .before .before .before .pre .1) _ (c .before .before .before .before .choose .ensures) _ (c .before .sift .ensures) _ (c .before .before .before .without .ensures), c .before .before .before .before .before .before .before .before .before .before .before .before .before .before .before .before .before .before .before .pre .0),
+    without-ready _ _ _ _ _ _ _ (c .before .before .before .before .before .before .before .before .before .before .before .before .before .before .before .before .before .before .before .pre .1) _ (c .before .before .before .before .choose .ensures) _ (c .before .sift .ensures) _ (c .before .before .before .without .ensures),
+  )
 
   is-bounded-requires : branch-lts.Need-is-bounded-requires (calls t) (branch-at t) branch.Post
-  is-bounded-requires c κs =
-      let r = c .before .before .before .before in
-      with-boundable _ _ _ _ _ _ _ (c .before .before .before .before .before .before .before .before .before .before .before .before .before .before .before .before .before .before .before .before .before .pre .1) _ (r .before .before .choose .ensures) _ (left-beside r)
+  is-bounded-requires c κs = with-boundable _ _ _ _ _ _ _ (c .before .before .before .before .before .before .before .before .before .before .before .before .before .before .before .before .before .before .before .before .before .before .pre .1) _ (c .before .before .before .before .before .before .before .choose .ensures) _ (c .before .before .before .before .sift .ensures)
 
   same-length-2 : branch-lts.Need-same-length-2 (calls t) (branch-at t) branch.Post
   same-length-2 c = search needs
 
   returns-5 : branch-lts.Need-returns-5 (calls t) (branch-at t) branch.Post
-  returns-5 c =
-      let r = c .before .before .before .before .before .before in
-      without-adds _ _ _ _ _ _ _ (c .before .before .before .before .before .before .before .before .before .before .before .before .before .before .before .before .before .before .before .before .before .before .before .pre .1) _ (r .before .before .choose .ensures) _ (left-beside r) _ (r .before .without .ensures) _ _ _ (c .before .before .before .before .branch .ensures)
-      (c .before .is-bounded .ensures (c .if5 .taken))
+  returns-5 c = without-adds _ _ _ _ _ _ _ (c .before .before .before .before .before .before .before .before .before .before .before .before .before .before .before .before .before .before .before .before .before .before .before .before .pre .1) _ (c .before .before .before .before .before .before .before .before .before .choose .ensures) _ (c .before .before .before .before .before .before .sift .ensures) _ (c .before .before .before .before .before .before .before .before .without .ensures) _ _ _ (c .before .before .before .before .branch .ensures) (c .before .is-bounded .ensures (c .if5 .taken))
 
   with-requires : branch-lts.Need-with-requires (calls t) (branch-at t) branch.Post
-  with-requires c κs = omega (arith, vertex (c .before .before .before .before .before .before .before .before), (c .before .before .before .before .before .before .before .before .before .before .before .before .before .before .before .before .before .before .before .before .before .before .before .pre .1) .settled .most)
+  with-requires c κs = omega (arith, in-below _ _ _ ((c .before .before .before .before .before .before .before .before .before .before .before .before .before .before .before .before .before .before .before .before .before .before .before .before .pre .1) .fine .candidates) (c .before .before .before .before .before .before .before .before .before .choose .ensures), (c .before .before .before .before .before .before .before .before .before .before .before .before .before .before .before .before .before .before .before .before .before .before .before .before .pre .1) .settled .most)
+
+  fewer-requires : branch-lts.Need-fewer-requires (calls t) (branch-at t) branch.Post
+  fewer-requires c κs = tt
 
   branch-requires-2 : branch-lts.Need-branch-requires-2 (calls t) (branch-at t) branch.Post
-  branch-requires-2 c κs =
-      let r = c .before .before .before .before .before .before .before .before in
-      let i = r .before .before .choose .ensures in (
-        omega (arith, with-falls _ _ _ _ _ _ _ (c .before .before .before .before .before .before .before .before .before .before .before .before .before .before .before .before .before .before .before .before .before .before .before .before .before .pre .1) _ i _ (left-beside r), c .before .before .before .before .before .before .before .before .before .before .before .before .before .before .before .before .before .before .before .before .before .before .before .before .before .pre .0),
-        with-ready _ _ _ _ _ _ _ (c .before .before .before .before .before .before .before .before .before .before .before .before .before .before .before .before .before .before .before .before .before .before .before .before .before .pre .1) _ i _ (left-beside r) _ (r .before .without .ensures) _ _ _ (c .before .before .before .before .before .before .branch .ensures) _ (c .before .with .ensures),
-      )
+  branch-requires-2 c κs = (
+    omega (arith, with-falls _ _ _ _ _ _ _ (c .before .before .before .before .before .before .before .before .before .before .before .before .before .before .before .before .before .before .before .before .before .before .before .before .before .before .before .pre .1) _ (c .before .before .before .before .before .before .before .before .before .before .before .before .choose .ensures) _ (c .before .before .before .before .before .before .before .before .before .sift .ensures), c .before .before .before .before .before .before .before .before .before .before .before .before .before .before .before .before .before .before .before .before .before .before .before .before .before .before .before .pre .0),
+    with-ready _ _ _ _ _ _ _ (c .before .before .before .before .before .before .before .before .before .before .before .before .before .before .before .before .before .before .before .before .before .before .before .before .before .before .before .pre .1) _ (c .before .before .before .before .before .before .before .before .before .before .before .before .choose .ensures) _ (c .before .before .before .before .before .before .before .before .before .sift .ensures) _ (c .before .before .before .before .before .before .before .before .before .before .before .without .ensures) _ _ _ (c .before .before .before .before .before .before .before .branch .ensures) _ (c .before .before .with .ensures),
+  )
 
   same-length-3 : branch-lts.Need-same-length-3 (calls t) (branch-at t) branch.Post
   same-length-3 c = search needs
 
   returns-6 : branch-lts.Need-returns-6 (calls t) (branch-at t) branch.Post
-  returns-6 c =
-      let r = c .before .before .before .before .before .before .before .before .before .before .before in
-      branches-add _ _ _ _ _ _ _ (c .before .before .before .before .before .before .before .before .before .before .before .before .before .before .before .before .before .before .before .before .before .before .before .before .before .before .before .before .pre .1) _ (r .before .before .choose .ensures) _ (left-beside r) _ (r .before .without .ensures) _ _ _ (c .before .before .before .before .before .before .before .before .before .branch .ensures) _ (c .before .before .before .before .with .ensures) _ _
-      (c .before .before .branch2 .ensures)
+  returns-6 c = branches-add _ _ _ _ _ _ _ (c .before .before .before .before .before .before .before .before .before .before .before .before .before .before .before .before .before .before .before .before .before .before .before .before .before .before .before .before .before .before .pre .1) _ (c .before .before .before .before .before .before .before .before .before .before .before .before .before .before .before .choose .ensures) _ (c .before .before .before .before .before .before .before .before .before .before .before .before .sift .ensures) _ (c .before .before .before .before .before .before .before .before .before .before .before .before .before .before .without .ensures) _ _ _ (c .before .before .before .before .before .before .before .before .before .before .branch .ensures) _ (c .before .before .before .before .before .with .ensures) _ _ (c .before .before .branch2 .ensures)
 
 pub +branch-spec : {M : Type 1} → statement M
 +branch-spec =
@@ -208,11 +194,13 @@ pub +branch-spec : {M : Type 1} → statement M
     (choose-requires t)
     (without-requires t)
     (beside-requires t)
+    (sift-requires t)
     (branch-requires t)
     (is-bounded-requires t)
     (same-length-2 t)
     (returns-5 t)
     (with-requires t)
+    (fewer-requires t)
     (branch-requires-2 t)
     (same-length-3 t)
     (returns-6 t))
