@@ -43,7 +43,7 @@ pub fn agenda(rows: &[u64], c: Set, m: Set, wide: usize) -> Set
     requires { ⌜ Pickable (masks (now rows)) (mask m) ⌝ }
     ensures { λ r. ⌜ Covering (masks (now (rows .entry))) (mask c) (mask m) (mask r) ⌝ }
 {
-    if wide < sets::size(c) {
+    if crate::choice::is_wide(c, wide) {
         return c;
     }
     pivot(rows, c, m)

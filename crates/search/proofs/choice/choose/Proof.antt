@@ -5,8 +5,8 @@ use borrow.Author.Needs.{needs}
 use Rattle.search.proofs.choice.choose.Statement.{statement}
 use Rattle.search.proofs.choice.choose.Tie as tie
 
-size-requires : tie.Need-size-requires
-size-requires c κs = search needs
+is-wide-requires : tie.Need-is-wide-requires
+is-wide-requires c κs = search needs
 
 highest-requires : tie.Need-highest-requires
 highest-requires c κs = choice-some _ _ _ (c .before .before .before .pre)
@@ -21,4 +21,4 @@ returns-2 : tie.Need-returns-2
 returns-2 c = in-of-sub _ _ _ (c .before .before .before .before .pre .part) (c .pick .ensures)
 
 pub choose-spec : {M : Type 1} → statement M
-choose-spec = tie.close (tie.spec size-requires highest-requires returns pick-requires returns-2)
+choose-spec = tie.close (tie.spec is-wide-requires highest-requires returns pick-requires returns-2)

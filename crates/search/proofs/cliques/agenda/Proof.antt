@@ -4,8 +4,8 @@ use borrow.Author.Needs.{needs}
 use Rattle.search.proofs.cliques.agenda.Statement.{statement}
 use Rattle.search.proofs.cliques.agenda.Tie as tie
 
-size-requires : tie.Need-size-requires
-size-requires c κs = search needs
+is-wide-requires : tie.Need-is-wide-requires
+is-wide-requires c κs = search needs
 
 returns : tie.Need-returns
 returns c = all-cover _ _ _ (c .before .before .before .pre)
@@ -17,4 +17,4 @@ returns-2 : tie.Need-returns-2
 returns-2 c = search needs
 
 pub agenda-spec : {M : Type 1} → statement M
-agenda-spec = tie.close (tie.spec size-requires returns pivot-requires returns-2)
+agenda-spec = tie.close (tie.spec is-wide-requires returns pivot-requires returns-2)
