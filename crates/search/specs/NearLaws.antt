@@ -21,7 +21,7 @@ use Rattle.sets.specs.SubsetLaws.{without-other, in-of-sub, in-below, in-has}
 use Rattle.sets.specs.SizeLaws.{minus-below}
 use Rattle.sets.specs.MemberLaws.{set-of-in, set-of-below}
 use Rattle.sets.specs.WordLaws.{bit-full}
-use Rattle.sets.specs.WalkLaws.{Sifted, sifted-all}
+use Rattle.sets.specs.WalkLaws.{Sifted, sifted-keep, sifted-drop, sifted-all}
 use Rattle.judging.specs.Graph.{adjacent, Valid}
 use Rattle.judging.specs.GraphLaws.{in-adjacent}
 use Rattle.judging.specs.Plex.{Plex}
@@ -51,6 +51,11 @@ pub close-test : (g : List ℕ) (k q s v u a b m c n : ℕ) (t : Bool) → a ≡
     → leb (cond t q (q + 2)) (n + 2 * k) ≡ close g k q s v u
 unfolding close common adjacent
 close-test g k q s v u a b m c n t ea eb em ec en et = rw (et, en, ec, em, eb, ea)
+
+-- one step of a walk that takes out what does not pass the test p
+pub sifted-next : (p : ℕ → Bool) (s left kept v r rest : ℕ) (b : Bool) → r ≡ without left v → b ≡ p v → rest ≡ cond b kept (without kept v) → Sifted p s left kept → Sifted p s r rest
+sifted-next p s left kept v r rest true e t d h = subst (Sifted p s r) (sym d) (sifted-keep p s left kept v r e (sym t) h)
+sifted-next p s left kept v r rest false e t d h = sifted-drop p s left kept v r rest e d (sym t) h
 
 -- a walk through f without v that takes out what is not close to v ends with the pair row
 pub sifted-row : (g : List ℕ) (k q s f v left kept : ℕ) → f < 2 ^ length g → left ≡ 0 → Sifted (close g k q s v) (without f v) left kept

@@ -1,13 +1,11 @@
 -- `search::near::pair_row` meets its contract. A walk through the given members without v takes out each member that is not close to v.
 use native.Mathlib.Omega.{arith}
-use mathlib.Core.Path.{sym, _∙_}
-use borrow.Author.Tests.{not-true, not-false}
 use Rattle.sets.specs.Set.{without}
 use Rattle.sets.specs.SizeLaws.{minus-below}
 use Rattle.sets.specs.Words.{mask, masks}
-use Rattle.sets.specs.WalkLaws.{walk-falls, walk-below, walk-goes-on, walk-over, Sifted, sifted-none, sifted-keep, sifted-drop}
+use Rattle.sets.specs.WalkLaws.{walk-falls, walk-below, walk-goes-on, walk-over, Sifted, sifted-none}
 use Rattle.search.specs.NearRows.{close}
-use Rattle.search.specs.NearLaws.{sifted-row}
+use Rattle.search.specs.NearLaws.{sifted-next, sifted-row}
 use Rattle.search.proofs.near.pair_row.Statement.{statement}
 use Rattle.search.proofs.near.pair_row.Tie as tie
 
@@ -33,31 +31,19 @@ rest-requires : tie.Need-rest-requires Inv-loop μ-loop
 rest-requires c κs = c .lowest .ensures
 
 is-close-requires : tie.Need-is-close-requires Inv-loop μ-loop
-is-close-requires c κs =
-    let pre = c .before .before .before .before .before .before .before .pre in
-    (pre .0, pre .2, walk-below _ _ _ _ (minus-below _ _ _ (pre .1)) (c .before .before .before .before .loop .inv .passed .part) (c .before .lowest .ensures))
+is-close-requires c κs = (c .before .before .before .before .before .before .before .pre .0, c .before .before .before .before .before .before .before .pre .2, walk-below _ _ _ _ (minus-below _ _ _ (c .before .before .before .before .before .before .before .pre .1)) (c .before .before .before .before .loop .inv .passed .part) (c .before .lowest .ensures))
 
-without-requires-2 : tie.Need-without-requires-2 Inv-loop μ-loop
-without-requires-2 c κs = c .before .before .before .lowest .ensures .fits
+drop-unless-requires : tie.Need-drop-unless-requires Inv-loop μ-loop
+drop-unless-requires c κs = c .before .before .lowest .ensures .fits
 
 loop-less : tie.Need-loop-less Inv-loop μ-loop
-loop-less c = walk-falls _ _ _ (c .before .before .before .before .lowest .ensures) (c .before .before .before .rest .ensures)
+loop-less c = walk-falls _ _ _ (c .before .before .before .lowest .ensures) (c .before .before .rest .ensures)
 
 loop-again : tie.Need-loop-again Inv-loop μ-loop
-loop-again c =
-    sifted-drop _ _ _ _ _ _ _ (c .before .before .before .rest .ensures) (c .without2 .ensures) (sym (c .before .before .is-close .ensures) ∙ not-true _ (c .before .if2 .taken))
-    (c .before .before .before .before .before .before .before .loop .inv)
-
-loop-less-2 : tie.Need-loop-less-2 Inv-loop μ-loop
-loop-less-2 c = walk-falls _ _ _ (c .before .before .before .lowest .ensures) (c .before .before .rest .ensures)
-
-loop-again-2 : tie.Need-loop-again-2 Inv-loop μ-loop
-loop-again-2 c =
-    sifted-keep _ _ _ _ _ _ (c .before .before .rest .ensures) (sym (c .before .is-close .ensures) ∙ not-false _ (c .if2 .left)) (c .before .before .before .before .before .before .loop .inv)
+loop-again c = sifted-next _ _ _ _ _ _ _ _ (c .before .before .rest .ensures) (c .before .is-close .ensures) (c .drop-unless .ensures) (c .before .before .before .before .before .before .loop .inv)
 
 returns : tie.Need-returns Inv-loop μ-loop
-returns c =
-    sifted-row _ _ _ _ _ _ _ _ (c .before .before .before .before .before .pre .1) (walk-over _ _ (c .before .is-empty .ensures) (c .if1 .left)) (c .before .before .loop .inv)
+returns c = sifted-row _ _ _ _ _ _ _ _ (c .before .before .before .before .before .pre .1) (walk-over _ _ (c .before .is-empty .ensures) (c .if1 .left)) (c .before .before .loop .inv)
 
 pub pair-row-spec : {M : Type 1} → statement M
 pair-row-spec =
@@ -71,9 +57,7 @@ pair-row-spec =
     lowest-requires
     rest-requires
     is-close-requires
-    without-requires-2
+    drop-unless-requires
     loop-less
     loop-again
-    loop-less-2
-    loop-again-2
     returns)
