@@ -6,7 +6,7 @@ use native.Mathlib.Omega.{arith}
 use native.Mathlib.Decide.{ℕ-discrete}
 use mathlib.Core.Path.{_≡_, refl, sym, subst, _∙_}
 use mathlib.Core.Logic.{_≢_}
-use mathlib.Core.Bool.{Bool, true, false, cond}
+use mathlib.Core.Bool.{Bool, true, false, not, cond}
 use mathlib.Core.List.{List}
 use lib.Bits.{bitAnd}
 use lib.Dec.{T, leb, le→leb}
@@ -15,15 +15,14 @@ use lib.Pow.{pow-pos}
 use lib.Seq.{getD-set-same, getD-set-other}
 use Rattle.sets.specs.Set.{bit, has, In, Sub, size, without, full}
 use Rattle.sets.specs.Graph.{row}
-use Rattle.sets.specs.RangeLaws.{both, false-fails}
-use Rattle.sets.specs.BitLaws.{bit-le, bit-and}
+use Rattle.sets.specs.RangeLaws.{both}
+use Rattle.sets.specs.BitLaws.{bit-and}
 use Rattle.sets.specs.SubsetLaws.{without-other, in-of-sub, in-below, in-has}
 use Rattle.sets.specs.SizeLaws.{minus-below}
 use Rattle.sets.specs.MemberLaws.{set-of-in, set-of-below}
 use Rattle.sets.specs.WordLaws.{bit-full}
 use Rattle.sets.specs.WalkLaws.{Sifted, sifted-keep, sifted-drop, sifted-all}
-use Rattle.judging.specs.Graph.{adjacent, Valid}
-use Rattle.judging.specs.GraphLaws.{in-adjacent}
+use Rattle.judging.specs.Graph.{Valid}
 use Rattle.judging.specs.Plex.{Plex}
 use Rattle.bounds.specs.Pair.{common}
 use Rattle.bounds.specs.PairLaws.{pair-common}
@@ -38,22 +37,17 @@ use Rattle.search.specs.NearRows.{close, pairRow, reachRow, nearRow, Pai
 pub pair-close : (g : List ℕ) (k q s x u v : ℕ) → Valid g → x < 2 ^ length g → q ≤ size x → Plex g k x → Sub x s → In u x → In v x → u ≢ v
     → T (close g k q s u v)
 unfolding close
-pair-close g k q s x u v ok b l p h hu hv ne = le→leb _ _ (go (adjacent g u v) refl (pair-common g k ok s x u v b p h hu hv ne))
-  where
-    go : (a : Bool) → adjacent g u v ≡ a → size x + 2 ≤ common g s u v + 2 * k + 2 * bit (row g u) v → cond a q (q + 2) ≤ common g s u v + 2 * k
-    go true e d = omega (arith, bit-le (row g u) v)
-    go false e d =
-        let apart : (bit (row g u) v ≡ 1 → ⊥) = λ i. false-fails _ e (in-adjacent g u v i) in
-        omega (arith, bit-le (row g u) v)
+pair-close g k q s x u v ok b l p h hu hv ne =
+    le→leb (q + 2) (common g s u v + 2 * k + 2 * bit (row g u) v) (omega (arith, pair-common g k ok s x u v b p h hu hv ne))
 
 -- the test by its parts: the rows a and b, what they share, that in s, its size, and whether a holds u
-pub close-test : (g : List ℕ) (k q s v u a b m c n : ℕ) (t : Bool) → a ≡ row g v → b ≡ row g u → m ≡ bitAnd a b → c ≡ bitAnd s m → n ≡ size c → t ≡ has a u
-    → leb (cond t q (q + 2)) (n + 2 * k) ≡ close g k q s v u
-unfolding close common adjacent
+pub close-test : (g : List ℕ) (k q s v u a b m c n t : ℕ) → a ≡ row g v → b ≡ row g u → m ≡ bitAnd a b → c ≡ bitAnd s m → n ≡ size c → t ≡ bit a u
+    → leb (q + 2) (n + 2 * k + 2 * t) ≡ close g k q s v u
+unfolding close common
 close-test g k q s v u a b m c n t ea eb em ec en et = rw (et, en, ec, em, eb, ea)
 
 -- one step of a walk that takes out what does not pass the test p
-pub sifted-next : (p : ℕ → Bool) (s left kept v r rest : ℕ) (b : Bool) → r ≡ without left v → b ≡ p v → rest ≡ cond b kept (without kept v) → Sifted p s left kept → Sifted p s r rest
+pub sifted-next : (p : ℕ → Bool) (s left kept v r rest : ℕ) (b : Bool) → r ≡ without left v → b ≡ p v → rest ≡ cond (not b) (without kept v) kept → Sifted p s left kept → Sifted p s r rest
 sifted-next p s left kept v r rest true e t d h = subst (Sifted p s r) (sym d) (sifted-keep p s left kept v r e (sym t) h)
 sifted-next p s left kept v r rest false e t d h = sifted-drop p s left kept v r rest e d (sym t) h
 

@@ -18,10 +18,10 @@ use mathlib.Core.List.{List}
 use lib.Bits.{bitAnd}
 use lib.Dec.{leb}
 use lib.ListN.{length}
-use Rattle.sets.specs.Set.{has, In, Sub, without, full, setOf}
+use Rattle.sets.specs.Set.{bit, has, In, Sub, without, full, setOf}
 use Rattle.sets.specs.Graph.{row}
 use Rattle.sets.specs.Words.{width}
-use Rattle.judging.specs.Graph.{adjacent, Valid}
+use Rattle.judging.specs.Graph.{Valid}
 use Rattle.judging.specs.Setting.{Sized, Inside}
 use Rattle.bounds.specs.Pair.{common}
 use Rattle.bounds.specs.Reach.{reach}
@@ -30,7 +30,7 @@ use Rattle.search.specs.Found.{Near}
 
 -- q - 2k common neighbours where they are adjacent, q - 2k + 2 where they are not
 unfoldable pub close : List ℕ → ℕ → ℕ → ℕ → ℕ → ℕ → Bool
-close g k q s v u = leb (cond (adjacent g v u) q (q + 2)) (common g s v u + 2 * k)
+close g k q s v u = leb (q + 2) (common g s v u + 2 * k + 2 * bit (row g v) u)
 
 unfoldable pub pairRow : List ℕ → ℕ → ℕ → ℕ → ℕ → ℕ → ℕ
 pairRow g k q s f v = setOf (length g) (λ u. has (without f v) u && close g k q s v u)

@@ -6,7 +6,10 @@
 use Prim.Native.Nat.{ℕ, _^_, _≤_, _<_}
 use native.Mathlib.Omega.{arith}
 use native.Mathlib.Decide.{ℕ-discrete, decLt}
-use mathlib.Core.Path.{_≡_, sym, subst}
+use mathlib.Core.Path.{_≡_, refl, sym, subst}
+use mathlib.Core.Bool.{Bool, true, false, cond}
+use lib.Dec.{leb}
+use borrow.Author.Tests.{leb-true, leb-false}
 use mathlib.Core.Logic.{_≢_}
 use mathlib.Core.List.{List}
 use lib.Bits.{bitAnd, bitOr}
@@ -244,6 +247,14 @@ module _ (g : List ℕ) (k s v c : ℕ) (h : Trimmable g s c v) where
               (λ y b m2. omega (arith, minus-sub d (2 ^ u) y, b m2)) (w .walked))
               (λ _. without-same d u);
         })
+
+    -- whether it goes or stays
+    pub cheapening-next : (n p : ℕ) → n ≡ missing g s u → p ≡ cond (leb k n) (without d u) d → Cheapening g k s v c r p
+    cheapening-next n p z f = go (leb k n) refl f
+      where
+        go : (b : Bool) → leb k n ≡ b → p ≡ cond b (without d u) d → Cheapening g k s v c r p
+        go true y t = cheapening-without p t (omega (arith, leb-true k n y))
+        go false y t = subst (Cheapening g k s v c r) (sym t) (cheapening-same (omega (arith, leb-false k n y)))
 
   pub cheapening-all : (left r : ℕ) → left ≡ 0 → Cheapening g k s v c left r → Cheap g k s v r
   cheapening-all left r z w y i far = go (decLt (missing g s y) k)

@@ -1,25 +1,12 @@
 // Tables of near rows: once the search has taken a vertex, it keeps no candidate outside the vertex's row.
 ghost use mathlib.Core.Path.{_≡_};
-ghost use mathlib.Core.Bool.{cond};
 ghost use Prim.Native.Nat.{_+_, _*_, _^_, _<_, _≤_};
 ghost use lib.ListN.{length};
-ghost use Rattle.sets.specs.Set.{has, without};
-ghost use Rattle.sets.specs.Words.{width, mask, masks};
+ghost use Rattle.sets.specs.Words.{mask, masks};
 ghost use Rattle.judging.specs.Graph.{Valid};
 ghost use Rattle.judging.specs.Setting.{LowRows, Sized};
 ghost use Rattle.search.specs.NearRows.{close, pairRow, reachRow, nearRow, Pairable, Pairing, Lent, Filled};
 use sets::Set;
-
-// How many common neighbours and twice k must be together for u to be close to a vertex with the row `beside`.
-pub fn needed(q: usize, beside: Set, u: usize) -> usize
-    requires { ⌜ (u < width) × (q ≤ width) ⌝ }
-    ensures { λ r. ⌜ r ≡ cond (has (mask beside) u) q (q + 2) ⌝ }
-{
-    if sets::has(beside, u) {
-        return q;
-    }
-    q + 2
-}
 
 // Have u and v as many common neighbours in the core as two members of one k-plex of q or more members have there?
 pub fn is_close(rows: &[u64], k: usize, q: usize, core: Set, v: usize, u: usize) -> bool
@@ -28,18 +15,7 @@ pub fn is_close(rows: &[u64], k: usize, q: usize, core: Set, v: usize, u: usize)
 {
     let beside = sets::get(rows, v);
     let shared = sets::size(sets::meet(core, sets::meet(beside, sets::get(rows, u))));
-    needed(q, beside, u) <= shared + 2 * k
-}
-
-// kept, without u unless it stays.
-pub fn drop_unless(kept: Set, u: usize, stays: bool) -> Set
-    requires { ⌜ u < width ⌝ }
-    ensures { λ r. ⌜ mask r ≡ cond stays (mask kept) (without (mask kept) u) ⌝ }
-{
-    if stays {
-        return kept;
-    }
-    sets::without(kept, u)
+    q + 2 <= shared + 2 * k + 2 * sets::indicator(beside, u)
 }
 
 // The members of `from`, v aside, that are close to v.
@@ -52,7 +28,7 @@ pub fn pair_row(rows: &[u64], k: usize, q: usize, core: Set, from: Set, v: usize
     while !sets::is_empty(left) {
         let u = sets::lowest(left);
         left = sets::rest(left, u);
-        kept = drop_unless(kept, u, is_close(rows, k, q, core, v, u));
+        kept = sets::without_if(kept, u, !is_close(rows, k, q, core, v, u));
     }
     kept
 }

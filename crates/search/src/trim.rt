@@ -33,9 +33,8 @@ pub fn drop_dear(rows: &[u64], k: usize, s: Set, c: Set, v: usize) -> Set
     while !sets::is_empty(left) {
         let w = sets::lowest(left);
         left = sets::rest(left, w);
-        if k <= judging::plex::missing(rows, s, w) {
-            kept = sets::without(kept, w);
-        }
+        let m = judging::plex::missing(rows, s, w);
+        kept = sets::without_if(kept, w, k <= m);
     }
     kept
 }

@@ -2,10 +2,11 @@
 // touch a set through these functions, and their contracts speak of its mask.
 ghost use mathlib.Core.Path.{_≡_};
 ghost use Prim.Native.Nat.{_-_, _^_, _<_, _≤_};
+ghost use mathlib.Core.Bool.{cond};
 ghost use lib.Dec.{eqb, ltb};
 ghost use lib.Bits.{bitAnd, bitOr};
 ghost use lib.ListN.{length, set};
-ghost use Rattle.sets.specs.Set.{has, size, subset, with, minus, without, full};
+ghost use Rattle.sets.specs.Set.{bit, has, size, subset, with, minus, without, full};
 ghost use Rattle.sets.specs.Words.{width, mask, masks, Lowest, Highest};
 ghost use Rattle.sets.specs.Graph.{row};
 
@@ -124,6 +125,22 @@ pub fn without(s: Set, v: usize) -> Set
     ensures { λ r. ⌜ mask r ≡ without (mask s) v ⌝ }
 {
     s & !single(v)
+}
+
+// s, and without v where b holds. No branch is needed for it.
+pub fn without_if(s: Set, v: usize, b: bool) -> Set
+    requires { ⌜ v < width ⌝ }
+    ensures { λ r. ⌜ mask r ≡ cond b (without (mask s) v) (mask s) ⌝ }
+{
+    s & !((b as u64) << v)
+}
+
+// 1 where v is a member of s, else 0.
+pub fn indicator(s: Set, v: usize) -> usize
+    requires { ⌜ v < width ⌝ }
+    ensures { λ r. ⌜ r ≡ bit (mask s) v ⌝ }
+{
+    ((s >> v) & 1) as usize
 }
 
 // The lowest member of s.

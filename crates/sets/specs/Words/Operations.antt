@@ -1,13 +1,18 @@
 -- What each operation on stored sets does to their masks. These laws hold for sets of one word.
 use Prim.Native.Nat.{ℕ, _+_, _-_, _*_, _/_, _%_, _^_, _≤_, _<_}
 use native.Mathlib.Omega.{arith}
+use native.Mathlib.Nat.{mod-lt, zero-mul}
 use mathlib.Core.Path.{_≡_, refl, ap, _∙_}
+use mathlib.Core.Bool.{Bool, true, false, cond}
 use mathlib.Core.List.{List, _++_}
 use lib.Dec.{eqb, leb, ltb}
-use lib.Bits.{bitAnd, bitOr}
+use lib.Bits.{bitAnd, bitOr, and-mask}
+use lib.Pow.{pow-pos}
+use mir.Val.{boolByte}
 use lib.Count.{leadingZeros, ones, ones-le, trailingZeros}
 use lib.ListN.{length, getD, set, take, drop}
-use Rattle.sets.specs.Set.{has, size, subset, with, minus, without, full}
+use Rattle.sets.specs.Set.{bit, has, size, subset, with, minus, without, full}
+use Rattle.sets.specs.SubsetLaws.{minus-none}
 use Rattle.sets.specs.Graph.{row}
 use Rattle.sets.specs.Words.{width, mask, masks, Lowest, Highest}
 use Rattle.sets.specs.WordLaws.{shift-one, shift-ones, shifted-has, le-ones-lt, and-not, trailing-lowest, leading-highest, clear-lowest}
@@ -68,6 +73,19 @@ with-mask s t v e = ap (bitOr s) e
 
 pub without-mask : (s t v : ℕ) → s < 2 ^ width → t < 2 ^ width → mask t ≡ 2 ^ v → mask (bitAnd s (2 ^ width - 1 - t)) ≡ without (mask s) v
 without-mask s t v hs ht e = minus-mask s t hs ht ∙ ap (minus (mask s)) e
+
+pub without-if-mask : (s v : ℕ) (b : Bool) → s < 2 ^ width → v < width
+    → mask (bitAnd s (2 ^ width - 1 - boolByte b * 2 ^ v % 2 ^ width)) ≡ cond b (without (mask s) v) (mask s)
+without-if-mask s v true hs hv = without-mask s (1 * 2 ^ v % 2 ^ width) v hs (mod-lt (1 * 2 ^ v) (pow-pos width)) (single-mask v hv)
+without-if-mask s v false hs hv =
+    minus-mask s (0 * 2 ^ v % 2 ^ width) hs (mod-lt (0 * 2 ^ v) (pow-pos width)) ∙ ap (minus (mask s)) nothing ∙ minus-none (mask s)
+  where
+    nothing : mask (0 * 2 ^ v % 2 ^ width) ≡ 0
+    nothing = ap (λ (x : ℕ). mask (x % 2 ^ width)) (zero-mul (2 ^ v)) ∙ empty-mask
+
+pub indicator-mask : (s v : ℕ) → bitAnd (s / 2 ^ v) 1 ≡ bit (mask s) v
+unfolding mask bit
+indicator-mask s v = and-mask (s / 2 ^ v) 1
 
 pub lowest-mask : (s : ℕ) → s < 2 ^ width → 0 < mask s → Lowest (mask s) (trailingZeros width s)
 unfolding mask

@@ -33,14 +33,14 @@ rest-requires c κs = c .lowest .ensures
 is-close-requires : tie.Need-is-close-requires Inv-loop μ-loop
 is-close-requires c κs = (c .before .before .before .before .before .before .before .pre .0, c .before .before .before .before .before .before .before .pre .2, walk-below _ _ _ _ (minus-below _ _ _ (c .before .before .before .before .before .before .before .pre .1)) (c .before .before .before .before .loop .inv .passed .part) (c .before .lowest .ensures))
 
-drop-unless-requires : tie.Need-drop-unless-requires Inv-loop μ-loop
-drop-unless-requires c κs = c .before .before .lowest .ensures .fits
+without-if-requires : tie.Need-without-if-requires Inv-loop μ-loop
+without-if-requires c κs = c .before .before .lowest .ensures .fits
 
 loop-less : tie.Need-loop-less Inv-loop μ-loop
 loop-less c = walk-falls _ _ _ (c .before .before .before .lowest .ensures) (c .before .before .rest .ensures)
 
 loop-again : tie.Need-loop-again Inv-loop μ-loop
-loop-again c = sifted-next _ _ _ _ _ _ _ _ (c .before .before .rest .ensures) (c .before .is-close .ensures) (c .drop-unless .ensures) (c .before .before .before .before .before .before .loop .inv)
+loop-again c = sifted-next _ _ _ _ _ _ _ _ (c .before .before .rest .ensures) (c .before .is-close .ensures) (c .without-if .ensures) (c .before .before .before .before .before .before .loop .inv)
 
 returns : tie.Need-returns Inv-loop μ-loop
 returns c = sifted-row _ _ _ _ _ _ _ _ (c .before .before .before .before .before .pre .1) (walk-over _ _ (c .before .is-empty .ensures) (c .if1 .left)) (c .before .before .loop .inv)
@@ -57,7 +57,7 @@ pair-row-spec =
     lowest-requires
     rest-requires
     is-close-requires
-    drop-unless-requires
+    without-if-requires
     loop-less
     loop-again
     returns)

@@ -3,7 +3,7 @@ use native.Mathlib.Omega.{arith}
 use Rattle.sets.specs.Words.{mask, masks}
 use Rattle.sets.specs.SizeLaws.{minus-below}
 use Rattle.sets.specs.WalkLaws.{walk-falls, walk-below, walk-goes-on, walk-over}
-use Rattle.search.specs.TrimLaws.{Cheapening, cheapening-none, cheapening-same, cheapening-without, cheapening-all}
+use Rattle.search.specs.TrimLaws.{Cheapening, cheapening-none, cheapening-next, cheapening-all}
 use Rattle.search.proofs.trim.drop_dear.Statement.{statement}
 use Rattle.search.proofs.trim.drop_dear.Tie as tie
 
@@ -32,40 +32,23 @@ rest-requires : tie.Need-rest-requires Inv-loop μ-loop
 rest-requires c κs = c .lowest .ensures
 
 missing-requires : tie.Need-missing-requires Inv-loop μ-loop
-missing-requires c κs =
-    let turn = c .before .before .before .before in
-    walk-below _ _ _ _ (minus-below _ _ _ (turn .before .before .before .before .pre .candidates)) (turn .loop .inv .walked .part) (c .before .lowest .ensures)
+missing-requires c κs = walk-below _ _ _ _ (minus-below _ _ _ (c .before .before .before .before .before .before .before .before .pre .candidates)) (c .before .before .before .before .loop .inv .walked .part) (c .before .lowest .ensures)
 
-without-requires : tie.Need-without-requires Inv-loop μ-loop
-without-requires c κs =
-    let lowest = c .before .before .before in
-    let turn = lowest .before .before .before in
-    let start = turn .before .before .before .before in
-    omega (arith, start .pre .most, walk-below _ _ _ _ (minus-below _ _ _ (start .pre .candidates)) (turn .loop .inv .walked .part) (lowest .lowest .ensures))
+without-if-requires : tie.Need-without-if-requires Inv-loop μ-loop
+without-if-requires c κs = c .before .before .lowest .ensures .fits
 
 loop-less : tie.Need-loop-less Inv-loop μ-loop
-loop-less c = walk-falls _ _ _ (c .before .before .before .before .lowest .ensures) (c .before .before .before .rest .ensures)
+loop-less c = walk-falls _ _ _ (c .before .before .before .lowest .ensures) (c .before .before .rest .ensures)
 
 loop-again : tie.Need-loop-again Inv-loop μ-loop
-loop-again c =
-    let rest = c .before .before .before in
-    let turn = rest .before .before .before .before in
-    cheapening-without _ _ _ _ _ (turn .before .before .before .before .pre) _ _ _ _ (rest .rest .ensures) (turn .loop .inv)
-    _ (c .without .ensures) (omega arith)
-
-loop-less-2 : tie.Need-loop-less-2 Inv-loop μ-loop
-loop-less-2 c = walk-falls _ _ _ (c .before .before .before .lowest .ensures) (c .before .before .rest .ensures)
-
-loop-again-2 : tie.Need-loop-again-2 Inv-loop μ-loop
-loop-again-2 c =
-    let turn = c .before .before .before .before .before .before in
-    cheapening-same _ _ _ _ _ (turn .before .before .before .before .pre) _ _ _ _ (c .before .before .rest .ensures) (turn .loop .inv) (omega arith)
+loop-again c = cheapening-next _ _ _ _ _ (c .before .before .before .before .before .before .before .before .before .before .pre) _ _ _ _ (c .before .before .rest .ensures) (c .before .before .before .before .before .before .loop .inv) _ _ (c .before .missing .ensures .0) (c .without-if .ensures)
 
 returns : tie.Need-returns Inv-loop μ-loop
 returns c =
-    let end = c .before .before in
-    let none = walk-over _ _ (c .before .is-empty .ensures) (c .if1 .left) in
-    record { kept = end .loop .inv .kept; cheap = cheapening-all _ _ _ _ _ (end .before .before .before .before .pre) _ _ none (end .loop .inv) }
+    record {
+      kept = c .before .before .loop .inv .kept;
+      cheap = cheapening-all _ _ _ _ _ (c .before .before .before .before .before .before .pre) _ _ (walk-over _ _ (c .before .is-empty .ensures) (c .if1 .left)) (c .before .before .loop .inv);
+    }
 
 pub drop-dear-spec : {M : Type 1} → statement M
 drop-dear-spec =
@@ -80,9 +63,7 @@ drop-dear-spec =
     lowest-requires
     rest-requires
     missing-requires
-    without-requires
+    without-if-requires
     loop-less
     loop-again
-    loop-less-2
-    loop-again-2
     returns)

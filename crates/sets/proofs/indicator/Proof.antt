@@ -1,0 +1,14 @@
+-- `sets::indicator` meets its contract: the bit is shifted down and the others masked off.
+use Rattle.sets.specs.Words.Operations.{indicator-mask}
+use borrow.Author.Needs.{needs}
+use Rattle.sets.proofs.indicator.Statement.{statement}
+use Rattle.sets.proofs.indicator.Tie as tie
+
+shr-result : tie.Need-shr-result
+shr-result c = search needs
+
+returns : tie.Need-returns
+returns c = indicator-mask (c .args .s) (c .args .v)
+
+pub indicator-spec : {M : Type 1} → statement M
+indicator-spec = tie.close (tie.spec shr-result returns)
