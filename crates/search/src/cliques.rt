@@ -14,8 +14,20 @@ ghost use Rattle.search.specs.Found.{found};
 ghost use Rattle.search.specs.Choice.{Pickable};
 use sets::Set;
 
-// The candidates that some vertex of m, the pivot, is not adjacent to. The pivot is one with the fewest, or the first with one at most.
-pub fn pivot(rows: &[u64], c: Set, m: Set) -> Set
+// How few candidates a pivot may leave for no better one to be looked for: one, and more while a clique lacks many members, since most branches are then
+// cut by the floor.
+pub fn enough(q: usize, have: usize) -> usize {
+    if q <= have {
+        return 1;
+    }
+    if 8 < q - have {
+        return 4;
+    }
+    1
+}
+
+// The candidates that some vertex of m, the pivot, is not adjacent to. The pivot is one with the fewest, or the first with `few` at most.
+pub fn pivot(rows: &[u64], c: Set, m: Set, few: usize) -> Set
     requires { ⌜ Pickable (masks (now rows)) (mask m) ⌝ }
     ensures { λ r. ⌜ Covering (masks (now (rows .entry))) (mask c) (mask m) (mask r) ⌝ }
 {
@@ -27,7 +39,7 @@ pub fn pivot(rows: &[u64], c: Set, m: Set) -> Set
         left = sets::rest(left, p);
         let missed = sets::minus(c, sets::get(rows, p));
         let n = sets::size(missed);
-        if n <= 1 {
+        if n <= few {
             return missed;
         }
         if n < fewest {
@@ -39,14 +51,14 @@ pub fn pivot(rows: &[u64], c: Set, m: Set) -> Set
 }
 
 // The candidates to take one after the other: all while more than `wide` are left, so that masks come almost in rising order, else those of the pivot.
-pub fn agenda(rows: &[u64], c: Set, m: Set, wide: usize) -> Set
+pub fn agenda(rows: &[u64], c: Set, m: Set, wide: usize, few: usize) -> Set
     requires { ⌜ Pickable (masks (now rows)) (mask m) ⌝ }
     ensures { λ r. ⌜ Covering (masks (now (rows .entry))) (mask c) (mask m) (mask r) ⌝ }
 {
     if crate::choice::is_wide(c, wide) {
         return c;
     }
-    pivot(rows, c, m)
+    pivot(rows, c, m, few)
 }
 
 // Places the clique s, which is maximal, if its `have` members are enough.
@@ -177,7 +189,7 @@ pub fn take(
     if sets::is_empty(sets::rest(second, v)) {
         return end_pair(rows, q, have, s, u, v, m, slots, count);
     }
-    let next = agenda(rows, c, m, wide);
+    let next = agenda(rows, c, m, wide, enough(q, have));
     let others = sets::minus(c, next);
     sweep(rows, q, wide, have, s, others, m, next, slots, count)
 }

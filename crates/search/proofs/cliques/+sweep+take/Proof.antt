@@ -22,6 +22,7 @@ use Rattle.search.proofs.cliques.take.Kinds as take-kinds
 use Rattle.search.proofs.cliques.+sweep+take.Lts-take as take-lts
 use Rattle.search.proofs.cliques.agenda.Reads as agenda-reads
 use Rattle.search.proofs.cliques.end.Reads as end-reads
+use Rattle.search.proofs.cliques.enough.Reads as enough-reads
 use Rattle.search.proofs.cliques.end_pair.Reads as end-pair-reads
 use Rattle.search.proofs.cliques.end_with.Reads as end-with-reads
 use Rattle.search.proofs.cliques.is_few.Reads as is-few-reads
@@ -95,6 +96,8 @@ take-calls t = (
   end-with-reads.Learnt,
   end-pair-reads.Asked,
   end-pair-reads.Learnt,
+  enough-reads.Asked,
+  enough-reads.Learnt,
   agenda-reads.Asked,
   agenda-reads.Learnt,
   minus-reads.Asked,
@@ -207,23 +210,26 @@ module _ (t : ℕ) where
   take-returns-4 : take-lts.Need-returns-4 (take-calls t) (take-at t) take.Post
   take-returns-4 c = adds-at _ _ _ _ _ _ _ _ _ (two-left _ _ _ _ _ (c .before .before .before .before .before .before .before .before .before .before .before .lowest .ensures .member) (c .before .before .before .before .before .before .before .before .before .before .rest .ensures) (c .before .before .before .before .before .before .before .lowest2 .ensures .member) (c .before .before .before .before .before .before .rest2 .ensures) (eqb-true _ _ (sym (c .before .before .before .before .before .is-empty3 .ensures) ∙ c .before .before .before .before .if4 .taken)) .0) (c .before .before .end-pair .ensures)
 
+  take-enough-requires : take-lts.Need-enough-requires (take-calls t) (take-at t) take.Post
+  take-enough-requires c κs = tt
+
   take-agenda-requires : take-lts.Need-agenda-requires (take-calls t) (take-at t) take.Post
-  take-agenda-requires c κs = taking-pickable _ _ _ _ _ _ _ (c .before .before .before .before .before .before .before .before .before .before .before .before .before .before .pre .1) _ (c .before .before .before .before .before .before .before .lowest .ensures .member)
+  take-agenda-requires c κs = taking-pickable _ _ _ _ _ _ _ (c .before .before .before .before .before .before .before .before .before .before .before .before .before .before .before .pre .1) _ (c .before .before .before .before .before .before .before .before .lowest .ensures .member)
 
   take-minus-requires : take-lts.Need-minus-requires (take-calls t) (take-at t) take.Post
   take-minus-requires c κs = tt
 
   take-sweep-requires : take-lts.Need-sweep-requires (take-calls t) (take-at t) take.Post
   take-sweep-requires c κs = (
-    omega (arith, next-candidates _ _ _ _ _ _ _ (c .before .before .before .before .before .before .before .before .before .before .before .before .before .before .before .before .before .pre .1) _ _ (c .before .minus .ensures) (c .before .before .agenda .ensures), c .before .before .before .before .before .before .before .before .before .before .before .before .before .before .before .before .before .pre .0),
-    next-sweeping _ _ _ _ _ _ _ (c .before .before .before .before .before .before .before .before .before .before .before .before .before .before .before .before .before .pre .1) _ _ (c .before .minus .ensures) (c .before .before .agenda .ensures),
+    omega (arith, next-candidates _ _ _ _ _ _ _ (c .before .before .before .before .before .before .before .before .before .before .before .before .before .before .before .before .before .before .pre .1) _ _ (c .before .minus .ensures) (c .before .before .agenda .ensures), c .before .before .before .before .before .before .before .before .before .before .before .before .before .before .before .before .before .before .pre .0),
+    next-sweeping _ _ _ _ _ _ _ (c .before .before .before .before .before .before .before .before .before .before .before .before .before .before .before .before .before .before .pre .1) _ _ (c .before .minus .ensures) (c .before .before .agenda .ensures),
   )
 
   take-same-length-4 : take-lts.Need-same-length-4 (take-calls t) (take-at t) take.Post
   take-same-length-4 c = search needs
 
   take-returns-5 : take-lts.Need-returns-5 (take-calls t) (take-at t) take.Post
-  take-returns-5 c = next-adds _ _ _ _ _ _ _ (c .before .before .before .before .before .before .before .before .before .before .before .before .before .before .before .before .before .before .before .before .pre .1) _ _ (c .before .before .before .before .minus .ensures) (c .before .before .before .before .before .agenda .ensures) _ _ _ (c .before .before .sweep .ensures)
+  take-returns-5 c = next-adds _ _ _ _ _ _ _ (c .before .before .before .before .before .before .before .before .before .before .before .before .before .before .before .before .before .before .before .before .before .pre .1) _ _ (c .before .before .before .before .minus .ensures) (c .before .before .before .before .before .agenda .ensures) _ _ _ (c .before .before .sweep .ensures)
 
 pub +sweep+take-spec : {M : Type 1} → statement M
 +sweep+take-spec =
@@ -262,6 +268,7 @@ pub +sweep+take-spec : {M : Type 1} → statement M
     (take-end-pair-requires t)
     (take-same-length-3 t)
     (take-returns-4 t)
+    (take-enough-requires t)
     (take-agenda-requires t)
     (take-minus-requires t)
     (take-sweep-requires t)
