@@ -14,16 +14,12 @@ ghost use Rattle.search.specs.Found.{found};
 ghost use Rattle.search.specs.Choice.{Pickable};
 use sets::Set;
 
-// How few candidates a pivot may leave for no better one to be looked for: one, and more while a clique lacks many members, since most branches are then
-// cut by the floor.
-pub fn enough(q: usize, have: usize) -> usize {
+// Does a clique lack many members? Most branches are then cut by the floor, and a pivot that leaves few candidates is good enough.
+pub fn is_far(q: usize, have: usize) -> bool {
     if q <= have {
-        return 1;
+        return false;
     }
-    if 8 < q - have {
-        return 4;
-    }
-    1
+    8 < q - have
 }
 
 // The candidates that some vertex of m, the pivot, is not adjacent to. The pivot is one with the fewest, or the first with `few` at most.
@@ -51,14 +47,17 @@ pub fn pivot(rows: &[u64], c: Set, m: Set, few: usize) -> Set
 }
 
 // The candidates to take one after the other: all while more than `wide` are left, so that masks come almost in rising order, else those of the pivot.
-pub fn agenda(rows: &[u64], c: Set, m: Set, wide: usize, few: usize) -> Set
+pub fn agenda(rows: &[u64], c: Set, m: Set, wide: usize, far: bool) -> Set
     requires { ⌜ Pickable (masks (now rows)) (mask m) ⌝ }
     ensures { λ r. ⌜ Covering (masks (now (rows .entry))) (mask c) (mask m) (mask r) ⌝ }
 {
     if crate::choice::is_wide(c, wide) {
         return c;
     }
-    pivot(rows, c, m, few)
+    if far {
+        return pivot(rows, c, m, 4);
+    }
+    pivot(rows, c, m, 1)
 }
 
 // Places the clique s, which is maximal, if its `have` members are enough.
@@ -189,7 +188,7 @@ pub fn take(
     if sets::is_empty(sets::rest(second, v)) {
         return end_pair(rows, q, have, s, u, v, m, slots, count);
     }
-    let next = agenda(rows, c, m, wide, enough(q, have));
+    let next = agenda(rows, c, m, wide, is_far(q, have));
     let others = sets::minus(c, next);
     sweep(rows, q, wide, have, s, others, m, next, slots, count)
 }

@@ -83,7 +83,7 @@ fn enumerate_cliques(rows: &[u64], q: usize, wide: usize, all: Set, slots: &mut 
     ensures { λ r. ⌜ Adds (2 ^ length (masks (now (rows .entry)))) (listed (masks (now (rows .entry))) 1 q) (masks (now (slots .entry))) 0 (masks (now (slots .exit))) r ⌝ }
 {
     let every = sets::full(sets::count(rows));
-    let todo = cliques::agenda(rows, all, every, wide, 1);
+    let todo = cliques::agenda(rows, all, every, wide, false);
     let base = sets::minus(all, todo);
     cliques::sweep(rows, q, wide, 0, sets::empty(), base, every, todo, slots, 0)
 }

@@ -22,7 +22,7 @@ use Rattle.search.proofs.cliques.take.Kinds as take-kinds
 use Rattle.search.proofs.cliques.+sweep+take.Lts-take as take-lts
 use Rattle.search.proofs.cliques.agenda.Reads as agenda-reads
 use Rattle.search.proofs.cliques.end.Reads as end-reads
-use Rattle.search.proofs.cliques.enough.Reads as enough-reads
+use Rattle.search.proofs.cliques.is_far.Reads as is-far-reads
 use Rattle.search.proofs.cliques.end_pair.Reads as end-pair-reads
 use Rattle.search.proofs.cliques.end_with.Reads as end-with-reads
 use Rattle.search.proofs.cliques.is_few.Reads as is-few-reads
@@ -96,8 +96,8 @@ take-calls t = (
   end-with-reads.Learnt,
   end-pair-reads.Asked,
   end-pair-reads.Learnt,
-  enough-reads.Asked,
-  enough-reads.Learnt,
+  is-far-reads.Asked,
+  is-far-reads.Learnt,
   agenda-reads.Asked,
   agenda-reads.Learnt,
   minus-reads.Asked,
@@ -210,8 +210,8 @@ module _ (t : ℕ) where
   take-returns-4 : take-lts.Need-returns-4 (take-calls t) (take-at t) take.Post
   take-returns-4 c = adds-at _ _ _ _ _ _ _ _ _ (two-left _ _ _ _ _ (c .before .before .before .before .before .before .before .before .before .before .before .lowest .ensures .member) (c .before .before .before .before .before .before .before .before .before .before .rest .ensures) (c .before .before .before .before .before .before .before .lowest2 .ensures .member) (c .before .before .before .before .before .before .rest2 .ensures) (eqb-true _ _ (sym (c .before .before .before .before .before .is-empty3 .ensures) ∙ c .before .before .before .before .if4 .taken)) .0) (c .before .before .end-pair .ensures)
 
-  take-enough-requires : take-lts.Need-enough-requires (take-calls t) (take-at t) take.Post
-  take-enough-requires c κs = tt
+  take-is-far-requires : take-lts.Need-is-far-requires (take-calls t) (take-at t) take.Post
+  take-is-far-requires c κs = tt
 
   take-agenda-requires : take-lts.Need-agenda-requires (take-calls t) (take-at t) take.Post
   take-agenda-requires c κs = taking-pickable _ _ _ _ _ _ _ (c .before .before .before .before .before .before .before .before .before .before .before .before .before .before .before .pre .1) _ (c .before .before .before .before .before .before .before .before .lowest .ensures .member)
@@ -268,7 +268,7 @@ pub +sweep+take-spec : {M : Type 1} → statement M
     (take-end-pair-requires t)
     (take-same-length-3 t)
     (take-returns-4 t)
-    (take-enough-requires t)
+    (take-is-far-requires t)
     (take-agenda-requires t)
     (take-minus-requires t)
     (take-sweep-requires t)

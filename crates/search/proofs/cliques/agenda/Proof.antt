@@ -16,5 +16,11 @@ pivot-requires c κs = search needs
 returns-2 : tie.Need-returns-2
 returns-2 c = search needs
 
+pivot-requires-2 : tie.Need-pivot-requires-2
+pivot-requires-2 c κs = search needs
+
+returns-3 : tie.Need-returns-3
+returns-3 c = search needs
+
 pub agenda-spec : {M : Type 1} → statement M
-agenda-spec = tie.close (tie.spec is-wide-requires returns pivot-requires returns-2)
+agenda-spec = tie.close (tie.spec is-wide-requires returns pivot-requires returns-2 pivot-requires-2 returns-3)
