@@ -3,13 +3,14 @@
 //!
 //!   cargo run --release --offline --package bench
 //!
-//!   bench --part NAME     cuts, placing or growth alone
+//!   bench --part NAME     cuts, placing or growth alone, or wide: many instances of other kinds
 //!   bench --only NAME     the rows of one graph in the table of cuts
 //!   bench --rivals        the table of cuts with the independent implementations alone
 //!   bench --limit S       leave a run that takes more than S seconds (3)
 mod clock;
 mod rows;
 mod variants;
+mod wide;
 
 use outside::instances;
 use rows::{Row, ROWS};
@@ -66,7 +67,7 @@ fn in_turns(row: &Row, variants: &[usize]) -> (f64, Vec<f64>) {
     let graph = (row.graph)();
     let run = |i: usize| VARIANTS[i].count(&graph, row.k, row.q);
     let firsts: Vec<f64> = variants.iter().map(|&i| clock::timed(|| run(i)).1).collect();
-    let rounds = ((4000.0 / firsts.iter().sum::<f64>()) as usize).clamp(3, 15);
+    let rounds = ((6000.0 / firsts.iter().sum::<f64>()) as usize).clamp(5, 15);
     let round = || -> Vec<f64> { variants.iter().zip(&firsts).map(|(&i, &first)| once(first, || run(i))).collect() };
     let times: Vec<Vec<f64>> = (0..rounds).map(|_| round()).collect();
     let ratio = |i: usize| median(times.iter().map(|round| round[i] / round[0]).collect());
@@ -145,12 +146,13 @@ fn cuts(only: Option<&str>, rivals: bool, limit: Duration) {
 fn placing() {
     println!("\n## Placing\n");
     println!("| graph | k | q | m | slots | counting, ms | listing, ms | ratio |\n|---|---|---|---|---|---|---|---|");
-    let cases: [(&str, Vec<u64>, usize, usize); 6] = [
+    let cases: [(&str, Vec<u64>, usize, usize); 7] = [
         ("johnson8-2-4", instances::johnson8_2_4(), 2, 4),
         ("random 0.3", instances::random(64, 0.3, 1), 2, 3),
         ("random 0.5", instances::random(64, 0.5, 1), 2, 3),
         ("MANN_a9", instances::mann_a9(), 2, 25),
         ("hamming6-4", instances::hamming6(4), 3, 6),
+        ("random 0.8", instances::random(64, 0.8, 1), 1, 1),
         ("random 0.9", instances::random(64, 0.9, 1), 1, 11),
     ];
     for (name, rows, k, q) in cases {
@@ -199,6 +201,10 @@ fn main() {
         println!("{time} {}", ratios.iter().map(f64::to_string).collect::<Vec<_>>().join(" "));
         return;
     }
+    if after("--wide").is_some() {
+        wide::one(arguments[1].parse().expect("a graph"), arguments[2].parse().expect("a slack"));
+        return;
+    }
     let limit = Duration::from_secs(after("--limit").map_or(3, |s| s.parse().expect("seconds")));
     let part = |name| after("--part").is_none_or(|part| part == name);
     if part("cuts") {
@@ -209,5 +215,8 @@ fn main() {
     }
     if part("growth") && after("--only").is_none() {
         growth();
+    }
+    if after("--part") == Some("wide") {
+        wide::all();
     }
 }
