@@ -77,7 +77,7 @@ kadvisk_outcome kadvisk_list(const uint64_t *rows, size_t n, size_t slack, size_
 
 /* The same list, by a search whose cuts are switched on or off; only the time differs. kadvisk_list has all on but second.
  *    core     start from the core instead of all vertices
- *    reach    beside a vertex that is taken keep only its two-hop reach (without effect where pairs is on)
+ *    reach    beside a vertex that is taken keep only its two-hop reach
  *    pairs    beside a vertex that is taken keep only those with enough common neighbours
  *    second   skip a vertex whose second bound is below the floor
  *    parted   leave a branch whose partition bound is below the floor

@@ -112,7 +112,7 @@ impl std::error::Error for Refusal {}
 pub struct Cuts {
     /// Start from the core instead of all vertices.
     pub core: bool,
-    /// Beside a vertex that is taken keep only its two-hop reach. Without effect where `pairs` is on, which is stronger.
+    /// Beside a vertex that is taken keep only its two-hop reach.
     pub reach: bool,
     /// Beside a vertex that is taken keep only those with enough common neighbours.
     pub pairs: bool,

@@ -78,7 +78,7 @@ pub fn place_clique(
     crate::place::insert(slots, count, s)
 }
 
-// The same where no candidate is left: places the clique s, which has `have` members, if it has no common neighbour, of which m are all.
+// What `take` does where no candidate is left: places the clique s if it has no common neighbour, since m are all of these.
 pub fn end(
     rows: &[u64],
     q: usize,
@@ -98,7 +98,7 @@ pub fn end(
     count
 }
 
-// The same where v is the only candidate.
+// What `take` does where v is the only candidate.
 pub fn end_with(
     rows: &[u64],
     q: usize,
@@ -117,7 +117,7 @@ pub fn end_with(
     end(rows, q, have + 1, sets::with(s, v), beside, slots, count)
 }
 
-// The same where u and v are the only candidates: a clique has both if they are adjacent, else one of them.
+// What `take` does where u and v are the only candidates: a clique has both if they are adjacent, else one of them.
 pub fn end_pair(
     rows: &[u64],
     q: usize,

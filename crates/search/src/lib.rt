@@ -77,7 +77,7 @@ fn sifted(pairs: bool) -> usize {
     0
 }
 
-// The same for slack 1, by a pivot.
+// What `enumerate` does for slack 1, by a pivot.
 fn enumerate_cliques(rows: &[u64], q: usize, wide: usize, all: Set, slots: &mut [u64]) -> usize
     requires { ⌜ Accepted (masks (now rows)) 1 q × Candidates (masks (now rows)) 1 q (mask all) ⌝ }
     ensures { λ r. ⌜ Adds (2 ^ length (masks (now (rows .entry)))) (listed (masks (now (rows .entry))) 1 q) (masks (now (slots .entry))) 0 (masks (now (slots .exit))) r ⌝ }
@@ -100,6 +100,7 @@ pub fn enumerate(rows: &[u64], k: usize, q: usize, cuts: Cuts, slots: &mut [u64]
             return enumerate_cliques(rows, q, wide, all, slots);
         }
     }
+    // at the lowest floor pair rows keep what the reach keeps
     let mut near = [0u64; sets::WIDTH];
     near::fill(
         rows,

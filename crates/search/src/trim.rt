@@ -50,8 +50,8 @@ pub fn beside(rows: &[u64], near: &[u64], k: usize, s: Set, c: Set, v: usize) ->
     drop_dear(rows, k, joined, drop_blocked(rows, k, joined, close, v), v)
 }
 
-// Of `close`, what `beside` left, those that are close to v among s, v and `close` itself: while few vertices are taken, `few` more to be sifted for, this
-// drops many, and later it costs more than it saves.
+// Of `close`, which is what `beside` left, those that have enough common neighbours with v among s, v and `close` itself (001, Lemma 3). This drops many while few
+// vertices are taken, and later it costs more than it saves: it is done for the next `few` of them.
 pub fn sift(
     rows: &[u64],
     k: usize,
@@ -72,7 +72,7 @@ pub fn sift(
     crate::near::pair_row(rows, k, q, all, close, v)
 }
 
-// The count of those to be sifted for, once one more is taken.
+// For how many vertices candidates are sifted once one more is taken.
 pub fn fewer(few: usize) -> usize {
     if few == 0 {
         return 0;
