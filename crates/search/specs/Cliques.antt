@@ -26,7 +26,7 @@ use Rattle.sets.specs.Words.{width}
 use Rattle.sets.specs.BitLaws.{ext, bit-le, bit-and, bit-or, bit-minus, bit-high, bit-pow-other}
 use Rattle.sets.specs.RangeLaws.{and-left, and-right, both, or-cases, or-left, or-right}
 use Rattle.sets.specs.SubsetLaws.{sub-refl, sub-trans, sub-number, in-of-sub, in-below, with-sub, with-same, with-other, with-below, sub-with, without-same, without-other, minus-sub, positive-of}
-use Rattle.sets.specs.SizeLaws.{sub-size-eq, positive-size, size-one, size-mono, size-or, size-with, some-member, two-members, and-below}
+use Rattle.sets.specs.SizeLaws.{positive-size, size-one, size-mono, size-or, size-with, some-member, two-members, and-below}
 use Rattle.sets.specs.WalkLaws.{without-less}
 use Rattle.judging.specs.Graph.{missing, Valid}
 use Rattle.judging.specs.Plex.{Plex, Maximal}

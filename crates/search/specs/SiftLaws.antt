@@ -15,7 +15,6 @@ use Rattle.sets.specs.SubsetLaws.{sub-trans, sub-below, with-same, with-below, 
 use Rattle.sets.specs.SizeLaws.{minus-below}
 use Rattle.sets.specs.MemberLaws.{set-of-in, set-of-holds}
 use Rattle.judging.specs.Graph.{Valid}
-use Rattle.search.specs.Found.{Found}
 use Rattle.search.specs.TrimLaws.{Kept, Beside, kept-trans}
 use Rattle.search.specs.NearRows.{close, pairRow, Pairable}
 use Rattle.search.specs.NearLaws.{pair-close}

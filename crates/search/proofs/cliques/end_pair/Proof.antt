@@ -1,6 +1,5 @@
 -- `search::cliques::end_pair` meets its contract: two candidates that are adjacent are taken together, others one after the other.
-use mathlib.Core.Path.{refl, sym, ap, _∙_}
-use mathlib.Core.Bool.{true, false}
+use mathlib.Core.Path.{refl, ap, _∙_}
 use native.Mathlib.Omega.{arith}
 use borrow.Author.Needs.{needs}
 use lib.Bits.{bitAnd}

@@ -1,5 +1,4 @@
 -- `search::trim::drop_dear` meets its contract: what is dropped at each step is in no plex that holds s.
-use native.Mathlib.Omega.{arith}
 use Rattle.sets.specs.Words.{mask, masks}
 use Rattle.sets.specs.SizeLaws.{minus-below}
 use Rattle.sets.specs.WalkLaws.{walk-falls, walk-below, walk-goes-on, walk-over}
