@@ -1,3 +1,5 @@
--- What the proofs of sorted placing share.
+-- What the proofs of placing and sorting share.
+pub mod PartLaws
 pub mod ShiftLaws
 pub mod InsertLaws
+pub mod SplitLaws

@@ -3,7 +3,6 @@
 --   Choosable g w     w is a vertex of a graph that sets can hold
 --   Among g c w r     r are candidates of c; where there is none, w is no candidate and is adjacent to all
 --   Pickable g s      s has members, all of them vertices
---   Choice g c r      the same of r, a part of the candidates c
 --   Picking s left b  b is a member of s, and what is still to be looked at is a part of s
 use Prim.Native.Nat.{ℕ, _^_, _<_, _≤_}
 use native.Mathlib.Omega.{arith}
@@ -18,7 +17,7 @@ use Rattle.sets.specs.Graph.{row}
 use Rattle.sets.specs.Words.{width}
 use Rattle.sets.specs.RangeLaws.{true-holds, false-fails}
 use Rattle.sets.specs.BitLaws.{bit-le, bit-pow-same, bit-pow-other}
-use Rattle.sets.specs.SubsetLaws.{sub-number, has-in, in-has, minus-sub, sub-trans}
+use Rattle.sets.specs.SubsetLaws.{has-in, in-has, minus-sub, sub-trans}
 
 pub record Choosable (g : List ℕ) (w : ℕ) : Type 0 where
   pub vertex : w < length g
@@ -31,11 +30,6 @@ pub record Among (g : List ℕ) (c w r : ℕ) : Type 0 where
 pub record Pickable (g : List ℕ) (s : ℕ) : Type 0 where
   pub some : 0 < s
   pub below : s < 2 ^ length g
-
--- what the choice between the two relies on
-pub record Choice (g : List ℕ) (c r : ℕ) : Type 0 where
-  pub pickable : Pickable g r
-  pub part : Sub r c
 
 pub record Picking (s left b : ℕ) : Type 0 where
   pub member : In b s
@@ -59,6 +53,3 @@ among-far g c w r e h = subst (Among g c w) (sym e) (record { part = minus-sub c
 pub picking-next : (s left v r b : ℕ) → r ≡ without left v → Sub left s → In b s → Picking s r b
 picking-next s left v r b e p i =
     record { member = i; part = subst (λ (y : ℕ). Sub y s) (sym e) (sub-trans (without left v) left s (minus-sub left (2 ^ v)) p) }
-
-pub choice-some : (g : List ℕ) (c r : ℕ) → Choice g c r → 0 < c
-choice-some g c r h = omega (arith, sub-number r c (h .part), h .pickable .some)

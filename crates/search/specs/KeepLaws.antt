@@ -100,7 +100,7 @@ keep-rising p i (suc m) = go (p i) (keep-rising p (suc i) m)
     go true r = (le-refl i, r)
     go false r = lower (suc i) i (keep p (from (suc i) m)) (omega arith) r
 
-above : (b v : ℕ) (xs : List ℕ) → Rising b xs → Mem v xs → b ≤ v
+pub above : (b v : ℕ) (xs : List ℕ) → Rising b xs → Mem v xs → b ≤ v
 above b v [] r m = absurd (List·Memᴰ·not-nil m)
 above b v (x ∷ xs) r m = go (List·Memᴰ·cases-cons m) (above (suc x) v xs (r .1))
   where

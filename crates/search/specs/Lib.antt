@@ -1,8 +1,10 @@
--- The list, sorted placing and the search: definitions first, then their laws.
+-- The list, placing, order and the search: definitions first, then their laws.
 pub mod Listing
+pub mod Order
 pub mod Placing
 pub mod Found
 pub mod KeepLaws
+pub mod OrderLaws
 pub mod PlacingLaws
 pub mod ListingLaws
 pub mod TrimLaws

@@ -1,17 +1,19 @@
 -- Laws of the list: what stands in it, that it rises, that nothing else is such a list, and how long it can be.
 use Prim.Native.Nat.{ℕ, _^_, _≤_, _<_}
 use native.Mathlib.Omega.{arith}
-use mathlib.Core.Path.{_≡_, refl}
+use mathlib.Core.Path.{_≡_, refl, ap₂, _∙_}
 use mathlib.Core.List.{List, [], _++_}
 use lib.Dec.{T, leb, leb→le, le→leb}
 use lib.Count.{ones-le}
 use lib.Pow.{pow-pos}
-use lib.ListN.{length, drop}
+use lib.ListN.{length, take, drop}
 use Rattle.sets.specs.Ranges.{range}
 use Rattle.sets.specs.Set.{size}
 use Rattle.sets.specs.RangeLaws.{Mem, mem-range, range-mem, keep-mem, mem-keep, and-left, and-right, both}
 use Rattle.judging.specs.Plex.{maximal}
 use Rattle.judging.specs.PlexLaws.{maximal-holds, maximal-test}
+use Rattle.search.specs.Order.{Shuffled, Sorts}
+use Rattle.search.specs.OrderLaws.{rising-ordered, ordered-unique}
 use Rattle.search.specs.Placing.{passing, Adds}
 use Rattle.search.specs.Listing.{listed, listing, Listed}
 use Rattle.search.specs.KeepLaws.{keep-none, Rising, keep-rising, rising-unique}
@@ -79,8 +81,17 @@ module _ (g : List ℕ) (k q : ℕ) where
   unfolding listing
   listing-passing = refl
 
-  -- what the slots hold when all that is listed is added to none: m is the list's length, and while it fits, the list and then what was there
+  -- what the slots hold when all that is listed is added to none: m is the list's length, and while it fits, the list shuffled and then what was there
   pub listing-placed : (first after : List ℕ) (m : ℕ) → Adds (2 ^ length g) (listed g k q) first 0 after m
-      → (m ≡ length (listing g k q)) × (m ≤ length first → after ≡ listing g k q ++ drop m first)
+      → (m ≡ length (listing g k q)) × (m ≤ length first → Shuffled (take m after) (listing g k q) × (drop m after ≡ drop m first))
   unfolding listing
   listing-placed first after m s = let h = adds-all (2 ^ length g) (listed g k q) first after m s in (h .counted, h .kept)
+
+  -- so those slots, put in order, are the list
+  pub listing-sorted : (first after part : List ℕ) (m : ℕ) → Adds (2 ^ length g) (listed g k q) first 0 after m → m ≤ length first → Sorts (take m after) part
+      → part ++ drop m after ≡ listing g k q ++ drop m first
+  unfolding listing range
+  listing-sorted first after part m s l h =
+      let p = listing-placed first after m s .1 l in
+      ap₂ (λ (t u : List ℕ). t ++ u)
+      (ordered-unique part (listing g k q) (h .ordered) (rising-ordered 0 (listing g k q) (keep-rising (listed g k q) 0 (2 ^ length g))) (λ z. h .same z ∙ p .0 z)) (p .1)

@@ -10,6 +10,7 @@ use lib.Dec.{T, eqb, eqb→eq, eqb-refl}
 use lib.ListN.{length, drop}
 use Rattle.sets.specs.Ranges.{from, range, keep}
 use Rattle.sets.specs.RangeLaws.{mem-range, range-mem, keep-mem, mem-keep, or-cases, or-left, or-right}
+use Rattle.search.specs.Order.{times}
 use Rattle.search.specs.Placing.{passing, number, union, only, Apart, Holds, Adds}
 use Rattle.search.specs.KeepLaws.{length-from, keep-ext, keep-none, keep-length, keep-either, keep-rising, rising-unique}
 
@@ -75,14 +76,14 @@ module _ (N : ℕ) where
   holds-same first slots P Q count e h = let same = passing-same P Q e in record {
     counted = h .counted ∙ ap length same;
     long = h .long;
-    kept = λ l. h .kept l ∙ ap (λ (t : List ℕ). t ++ drop count first) same;
+    kept = λ l. (λ z. h .kept l .0 z ∙ ap (times z) same, h .kept l .1);
   }
 
   pub holds-none : (first : List ℕ) (P : ℕ → Bool) → ((x : ℕ) → x < N → T (P x) → ⊥) → Holds N first P first 0
   holds-none first P f = record {
     counted = sym (ap length (passing-none P f));
     long = refl;
-    kept = λ l. sym (ap (λ (t : List ℕ). t ++ first) (passing-none P f));
+    kept = λ l. (λ z. sym (ap (times z) (passing-none P f)), refl);
   }
 
   -- ---- steps that add

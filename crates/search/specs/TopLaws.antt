@@ -12,7 +12,7 @@ use mathlib.Core.List.{List, [], _∷_, _++_}
 use lib.Bits.{bitOr}
 use lib.Count.{ones-le}
 use lib.Pow.{pow-pos, pow-mono, ones-lt}
-use lib.ListN.{length, drop, replicate}
+use lib.ListN.{length, take, drop, replicate}
 use borrow.Author.Tests.{le-leb, lt-leb, lt-ltb, le-ltb}
 use Rattle.sets.specs.Set.{minus, bit, In, Sub, size, with, full}
 use Rattle.sets.specs.Words.{width, masks}
@@ -29,7 +29,8 @@ use Rattle.judging.specs.RefusalLaws.{first-append, first-holds, first-skips, f
 use Rattle.bounds.specs.Core.{core}
 use Rattle.bounds.specs.CoreLaws.{core-below, plex-core}
 use Rattle.search.specs.Listing.{listed, listing, Listed}
-use Rattle.search.specs.ListingLaws.{listed-test, listed-holds, listing-fits, listing-placed, listing-passing}
+use Rattle.search.specs.ListingLaws.{listed-test, listed-holds, listing-fits, listing-placed, listing-sorted, listing-passing}
+use Rattle.search.specs.Order.{Sorts}
 use Rattle.search.specs.Placing.{number, Adds}
 use Rattle.search.specs.PlacingLaws.{same-test, number-same, adds-same, adds-all}
 use Rattle.search.specs.Found.{found, Compatible, Near}
@@ -183,10 +184,10 @@ module _ (g : List ℕ) (k q : ℕ) where
         ap (λ (n : ℕ). answered n tt) counted
         ∙ sym (past (length before) ∙ first-skips (slotsCause (length before) (length (listing g k q))) [] (answered (length (listing g k q)) tt) (le-ltb (length before) (length (listing g k q)) (omega (arith, counted))))
 
-    pub list-slots : m ≤ length before → after ≡ slotsAfter g k q before
+    pub list-slots : (part : List ℕ) → Sorts (take m after) part → m ≤ length before → part ++ drop m after ≡ slotsAfter g k q before
     unfolding placed
-    list-slots l =
-        listing-placed g k q before after m x .1 l
+    list-slots part h l =
+        listing-sorted g k q before after part m x l h
         ∙ ap (λ (n : ℕ). listing g k q ++ drop n before) counted
         ∙ ap (λ (b : Bool). cond b (listing g k q ++ drop (length (listing g k q)) before) (replicate (length before) 0)) (sym (le-leb (length (listing g k q)) (length before) (omega (arith, counted))))
         ∙ given before

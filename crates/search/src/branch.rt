@@ -17,12 +17,11 @@ pub fn leaf(rows: &[u64], k: usize, a: Set, free: Set, slots: &mut [u64], count:
     if judging::plex::is_swallowed(rows, k, a, free) {
         return count;
     }
-    crate::place::insert(slots, count, a)
+    crate::place::push(slots, count, a)
 }
 
 // Places every listed plex that holds s and has no member outside s and c, and gives the new count.
-// The switches are the partition bound, the swallow test and the second bound; candidates are sifted by pairs for the next `few` vertices taken. While more than `wide` candidates are left the highest is branched on:
-// the branch without it comes first, so the masks come almost in rising order, and placing them moves little.
+// The switches are the partition bound, the swallow test and the second bound; candidates are sifted by pairs for the next `few` vertices taken.
 pub fn branch(
     rows: &[u64],
     near: &[u64],
@@ -31,7 +30,6 @@ pub fn branch(
     parted: bool,
     swallow: bool,
     second: bool,
-    wide: usize,
     few: usize,
     s: Set,
     c: Set,
@@ -59,7 +57,7 @@ pub fn branch(
     if sets::is_empty(from) {
         return count;
     }
-    let v = crate::choice::choose(rows, a, c, from, wide);
+    let v = crate::choice::pick(rows, a, from);
     let rest = sets::without(c, v);
     let close = crate::trim::beside(rows, near, k, s, c, v);
     let kept = crate::trim::sift(rows, k, q, few, s, c, v, close);
@@ -71,7 +69,6 @@ pub fn branch(
         parted,
         swallow,
         second,
-        wide,
         few,
         s,
         rest,
@@ -90,7 +87,6 @@ pub fn branch(
         parted,
         swallow,
         second,
-        wide,
         crate::trim::fewer(few),
         joined,
         kept,

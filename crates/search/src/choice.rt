@@ -2,7 +2,7 @@
 ghost use Prim.Native.Nat.{_<_};
 ghost use Rattle.sets.specs.Set.{In};
 ghost use Rattle.sets.specs.Words.{mask, masks};
-ghost use Rattle.search.specs.Choice.{Choosable, Among, Pickable, Choice};
+ghost use Rattle.search.specs.Choice.{Choosable, Among, Pickable};
 use sets::Set;
 
 // The candidates to choose from: w alone where it is one, else those that w is not adjacent to.
@@ -34,23 +34,4 @@ pub fn pick(rows: &[u64], a: Set, s: Set) -> usize
         }
     }
     best
-}
-
-// Are more than `wide` candidates left? Where `wide` is the most that a set can have, as for few slots, they are not counted.
-pub fn is_wide(c: Set, wide: usize) -> bool {
-    if sets::WIDTH <= wide {
-        return false;
-    }
-    wide < sets::size(c)
-}
-
-// The vertex to branch on: the highest candidate while more than `wide` are left, else the one of `from` that misses most of a.
-pub fn choose(rows: &[u64], a: Set, c: Set, from: Set, wide: usize) -> usize
-    requires { ⌜ Choice (masks (now rows)) (mask c) (mask from) ⌝ }
-    ensures { λ r. ⌜ In r (mask c) ⌝ }
-{
-    if is_wide(c, wide) {
-        return sets::highest(c);
-    }
-    pick(rows, a, from)
 }

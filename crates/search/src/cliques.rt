@@ -46,14 +46,11 @@ pub fn pivot(rows: &[u64], c: Set, m: Set, few: usize) -> Set
     best
 }
 
-// The candidates to take one after the other: all while more than `wide` are left, so that masks come almost in rising order, else those of the pivot.
-pub fn agenda(rows: &[u64], c: Set, m: Set, wide: usize, far: bool) -> Set
+// The candidates to take one after the other: those of a pivot.
+pub fn agenda(rows: &[u64], c: Set, m: Set, far: bool) -> Set
     requires { ⌜ Pickable (masks (now rows)) (mask m) ⌝ }
     ensures { λ r. ⌜ Covering (masks (now (rows .entry))) (mask c) (mask m) (mask r) ⌝ }
 {
-    if crate::choice::is_wide(c, wide) {
-        return c;
-    }
     if far {
         return pivot(rows, c, m, 4);
     }
@@ -75,7 +72,7 @@ pub fn place_clique(
     if have < q {
         return count;
     }
-    crate::place::insert(slots, count, s)
+    crate::place::push(slots, count, s)
 }
 
 // What `take` does where no candidate is left: places the clique s if it has no common neighbour, since m are all of these.
@@ -161,7 +158,6 @@ pub fn is_few(q: usize, have: usize, c: Set) -> bool
 pub fn take(
     rows: &[u64],
     q: usize,
-    wide: usize,
     have: usize,
     s: Set,
     c: Set,
@@ -188,9 +184,9 @@ pub fn take(
     if sets::is_empty(sets::rest(second, v)) {
         return end_pair(rows, q, have, s, u, v, m, slots, count);
     }
-    let next = agenda(rows, c, m, wide, is_far(q, have));
+    let next = agenda(rows, c, m, is_far(q, have));
     let others = sets::minus(c, next);
-    sweep(rows, q, wide, have, s, others, m, next, slots, count)
+    sweep(rows, q, have, s, others, m, next, slots, count)
 }
 
 // Places those that have a vertex of `todo` and none outside s, `base` and `todo`. A vertex that was taken joins `base`, so the cliques come by their
@@ -198,7 +194,6 @@ pub fn take(
 pub fn sweep(
     rows: &[u64],
     q: usize,
-    wide: usize,
     have: usize,
     s: Set,
     base: Set,
@@ -223,7 +218,7 @@ pub fn sweep(
         let beside = sets::meet(m, row);
         left = sets::rest(left, v);
         waiting = sets::with(waiting, v);
-        n = take(rows, q, wide, more, joined, inside, beside, slots, n);
+        n = take(rows, q, more, joined, inside, beside, slots, n);
     }
     n
 }

@@ -14,6 +14,7 @@ pub mod cut;
 pub mod near;
 pub mod partition;
 pub mod place;
+pub mod sort;
 pub mod survey;
 pub mod trim;
 
@@ -39,13 +40,6 @@ pub struct Cuts {
     pub pivot: bool,
 }
 
-// From so many slots on the order in which masks are found matters, and so deep below the top it is kept: deeper for cliques, which cost less to find.
-const MANY_SLOTS: usize = 16384;
-
-const DEEP: usize = 20;
-
-const DEEP_CLIQUES: usize = 28;
-
 // The vertices to start from: the core, or all.
 pub fn candidates(rows: &[u64], k: usize, q: usize, core: bool) -> Set
     requires { ⌜ Accepted (masks (now rows)) k q ⌝ }
@@ -57,18 +51,6 @@ pub fn candidates(rows: &[u64], k: usize, q: usize, core: bool) -> Set
     sets::full(sets::count(rows))
 }
 
-// Above how many candidates the search branches on the highest, for so many slots and candidates at the top: where few masks are stored, never.
-fn spread(room: usize, n: usize, k: usize) -> usize {
-    let mut deep = DEEP;
-    if k == 1 {
-        deep = DEEP_CLIQUES;
-    }
-    if room < MANY_SLOTS || n < deep {
-        return sets::WIDTH;
-    }
-    n - deep
-}
-
 // For how many vertices taken the candidates are sifted by pairs.
 fn sifted(pairs: bool) -> usize {
     if pairs {
@@ -78,14 +60,14 @@ fn sifted(pairs: bool) -> usize {
 }
 
 // What `enumerate` does for slack 1, by a pivot.
-fn enumerate_cliques(rows: &[u64], q: usize, wide: usize, all: Set, slots: &mut [u64]) -> usize
+fn enumerate_cliques(rows: &[u64], q: usize, all: Set, slots: &mut [u64]) -> usize
     requires { ⌜ Accepted (masks (now rows)) 1 q × Candidates (masks (now rows)) 1 q (mask all) ⌝ }
     ensures { λ r. ⌜ Adds (2 ^ length (masks (now (rows .entry)))) (listed (masks (now (rows .entry))) 1 q) (masks (now (slots .entry))) 0 (masks (now (slots .exit))) r ⌝ }
 {
     let every = sets::full(sets::count(rows));
-    let todo = cliques::agenda(rows, all, every, wide, false);
+    let todo = cliques::agenda(rows, all, every, false);
     let base = sets::minus(all, todo);
-    cliques::sweep(rows, q, wide, 0, sets::empty(), base, every, todo, slots, 0)
+    cliques::sweep(rows, q, 0, sets::empty(), base, every, todo, slots, 0)
 }
 
 // Places every maximal k-plex of at least q members while the slots have room, and counts them all.
@@ -94,10 +76,9 @@ pub fn enumerate(rows: &[u64], k: usize, q: usize, cuts: Cuts, slots: &mut [u64]
     ensures { λ r. ⌜ Adds (2 ^ length (masks (now (rows .entry)))) (listed (masks (now (rows .entry))) k q) (masks (now (slots .entry))) 0 (masks (now (slots .exit))) r ⌝ }
 {
     let all = candidates(rows, k, q, cuts.core);
-    let wide = spread(sets::count(slots), sets::size(all), k);
     if cuts.pivot {
         if k == 1 {
-            return enumerate_cliques(rows, q, wide, all, slots);
+            return enumerate_cliques(rows, q, all, slots);
         }
     }
     // at the lowest floor pair rows keep what the reach keeps
@@ -119,7 +100,6 @@ pub fn enumerate(rows: &[u64], k: usize, q: usize, cuts: Cuts, slots: &mut [u64]
         cuts.parted,
         cuts.swallow,
         cuts.second,
-        wide,
         sifted(cuts.pairs),
         sets::empty(),
         all,
@@ -137,11 +117,12 @@ pub fn list_with(rows: &[u64], request: Request, cuts: Cuts, slots: &mut [u64]) 
         return ListFound::Refused(f);
     }
     let m = enumerate(rows, request.slack, request.floor, cuts, slots);
-    if m <= sets::count(slots) {
-        return ListFound::Listed(m);
+    if sets::count(slots) < m {
+        place::clear(slots);
+        return ListFound::Refused(Refusal::Slots(m));
     }
-    place::clear(slots);
-    ListFound::Refused(Refusal::Slots(m))
+    sort::sort(&mut slots[..m]);
+    ListFound::Listed(m)
 }
 
 // Every maximal k-plex of at least q members of the graph with these rows, as masks in rising order, each once, for the slack k and the floor q of the request.

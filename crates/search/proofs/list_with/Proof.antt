@@ -1,17 +1,21 @@
--- `search::list_with` meets its contract: a refused request leaves the slots, and else what was added is the list.
+-- `search::list_with` meets its contract: a refused request leaves the slots, and else what was added, put in order, is the list.
 use Prim.Native.Nat.{ℕ, _≤_, _<_}
 use native.Mathlib.Omega.{arith}
-use mathlib.Core.Path.{sym, ap, _∙_}
+use mathlib.Core.Path.{sym, ap, subst, _∙_}
+use mathlib.Core.List.{List}
 use borrow.Author.Needs.{needs}
 use denote.Ref.{now}
 use lib.ListN.{length, replicate}
+use lib.Seq.{length-front, length-take-le}
 use Rattle.sets.specs.Words.{masks}
+use Rattle.sets.specs.Words.Operations.{count-masks, take-masks}
 use Rattle.judging.specs.Calls.{numberOf, valueOf, checkedReply, requestCheck}
 use Rattle.judging.specs.RefusalLaws.{first-append}
 use Rattle.judging.specs.CallLaws.{check-failed, none-holds}
 use Rattle.search.specs.Calls.{listReply}
+use Rattle.search.specs.Order.{Sorts}
 use Rattle.search.specs.TopLaws.{accepted, refused-slots, list-long, list-fits, list-slots, list-short, list-cleared}
-use borrow.Author.Needs.{needs}
+use Rattle.search.proofs.PartLaws.{back-before}
 use Rattle.search.proofs.list_with.Statement.{statement}
 use Rattle.search.proofs.list_with.Tie as tie
 
@@ -40,31 +44,50 @@ enumerate-requires c κs = accepted _ _ _ (none-holds _ _ (c .before .before .be
 count-requires : tie.Need-count-requires
 count-requires c κs = search needs
 
+clear-requires : tie.Need-clear-requires
+clear-requires c κs = search needs
+
 same-length : tie.Need-same-length
 same-length c = search needs
 
 returns-2 : tie.Need-returns-2
 returns-2 c =
-    let e = (none-holds _ _ (c .before .before .before .before .before .before .before .before .before .check-request .ensures) (c .before .before .before .before .before .before .before .enum-told .given .1)) in
-    let x = c .before .before .before .before .before .enumerate .ensures in
-    let fits : c .before .before .before .before .before .enumerate .result ≤ length (masks (now (c .before .before .before .before .before .before .before .before .before .before .before .before .args .slots))) = omega (arith, c .if1 .taken, c .before .count .ensures, list-long _ _ _ e _ _ _ x) in
-    record { reply = list-fits _ _ _ e _ _ _ x fits; slots = list-slots _ _ _ e _ _ _ x fits }
+    let e = (none-holds _ _ (c .before .before .before .before .before .before .before .before .before .before .before .before .before .check-request .ensures) (c .before .before .before .before .before .before .before .before .before .before .before .enum-told .given .1)) in
+    let x = c .before .before .before .before .before .before .before .before .before .enumerate .ensures in
+    let long = list-long _ _ _ e _ _ _ x in
+    let less : length (masks (now (c .before .before .before .before .before .before .before .before .before .before .before .before .before .before .before .before .args .slots))) < c .before .before .before .before .before .before .before .before .before .enumerate .result = omega (arith, c .before .before .before .before .if1 .taken, c .before .before .before .before .before .count .ensures, long) in
+    record {
+      reply = list-short _ _ _ e _ _ _ x less;
+      slots = c .before .before .clear .ensures ∙ ap (λ (n : ℕ). replicate n 0) long ∙ list-cleared _ _ _ e _ _ _ x less;
+    }
 
-clear-requires : tie.Need-clear-requires
-clear-requires c κs = search needs
+-- the list fits
+fits : (c : tie.Else1) → c .before .before .before .before .before .enumerate .result ≤ length (masks (c .before .before .before .before .before .enumerate .last .1 .1 .1 .1 .0))
+fits c = omega (arith, c .if1 .left, c .before .count .ensures)
+
+slice-relend-prefix-sort : tie.Need-slice-relend-prefix-sort
+slice-relend-prefix-sort c = omega (arith, fits (c), count-masks (c .before .before .before .before .before .enumerate .last .1 .1 .1 .1 .0))
+
+slice-aggregate-sort : tie.Need-slice-aggregate-sort
+slice-aggregate-sort c = sym (length-take-le _ _ (omega (arith, fits (c .before), count-masks (c .before .before .before .before .before .before .enumerate .last .1 .1 .1 .1 .0))))
+
+sort-requires : tie.Need-sort-requires
+sort-requires c κs = search needs
 
 same-length-2 : tie.Need-same-length-2
-same-length-2 c = search needs
+same-length-2 c = length-front (c .before .before .before .before .before .before .before .before .before .enumerate .last .1 .1 .1 .1 .0) (c .before .before .sort .last .0) (c .before .before .before .before .before .before .before .before .before .enumerate .result) (c .before .before .sort .kept .0) ∙ c .before .before .before .before .before .before .before .before .before .enumerate .kept .1 .1 .1 .1 .0
 
 returns-3 : tie.Need-returns-3
 returns-3 c =
     let e = (none-holds _ _ (c .before .before .before .before .before .before .before .before .before .before .before .before .before .check-request .ensures) (c .before .before .before .before .before .before .before .before .before .before .before .enum-told .given .1)) in
     let x = c .before .before .before .before .before .before .before .before .before .enumerate .ensures in
-    let long = list-long _ _ _ e _ _ _ x in
-    let less : length (masks (now (c .before .before .before .before .before .before .before .before .before .before .before .before .before .before .before .before .args .slots))) < c .before .before .before .before .before .before .before .before .before .enumerate .result = omega (arith, c .before .before .before .before .if1 .left, c .before .before .before .before .before .count .ensures, long) in
+    let after : List ℕ = c .before .before .before .before .before .before .before .before .before .enumerate .last .1 .1 .1 .1 .0 in
+    let part : List ℕ = c .before .before .sort .last .0 in
+    let m : ℕ = c .before .before .before .before .before .before .before .before .before .enumerate .result in
+    let enough : m ≤ length (masks (now (c .before .before .before .before .before .before .before .before .before .before .before .before .before .before .before .before .args .slots))) = omega (arith, fits (c .before .before .before .before), list-long _ _ _ e _ _ _ x) in
     record {
-      reply = list-short _ _ _ e _ _ _ x less;
-      slots = c .before .before .clear .ensures ∙ ap (λ (n : ℕ). replicate n 0) long ∙ list-cleared _ _ _ e _ _ _ x less;
+      reply = list-fits _ _ _ e _ _ _ x enough;
+      slots = back-before after part m ∙ list-slots _ _ _ e _ _ _ x (masks part) (subst (λ (t : List ℕ). Sorts t (masks part)) (take-masks m after) (c .before .before .sort .ensures)) enough;
     }
 
 pub list-with-spec : {M : Type 1} → statement M
@@ -77,8 +100,11 @@ list-with-spec =
     enum-told
     enumerate-requires
     count-requires
+    clear-requires
     same-length
     returns-2
-    clear-requires
+    slice-relend-prefix-sort
+    slice-aggregate-sort
+    sort-requires
     same-length-2
     returns-3)

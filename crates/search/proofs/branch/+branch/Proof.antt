@@ -8,7 +8,7 @@ use native.Mathlib.Omega.{arith}
 use borrow.Author.Needs.{needs}
 use borrow.Author.Tests.{eqb-true, eqb-false}
 use Rattle.sets.specs.Words.{mask}
-use Rattle.sets.specs.SubsetLaws.{in-below, sub-below, positive-of}
+use Rattle.sets.specs.SubsetLaws.{in-below, in-of-sub, sub-below, positive-of}
 use Rattle.search.specs.PlacingLaws.{adds-same}
 use Rattle.search.specs.Survey.{survey-plex, survey-free}
 use Rattle.search.specs.Ready.{ready-between, ready-inside, ready-joinable, ready-siftable, short-adds, swallowed-adds, stuck-adds, leaf-adds, leaf-room, with-boundable, with-ready, with-falls, without-falls, without-ready, without-adds, branches-add}
@@ -17,7 +17,7 @@ use Rattle.search.proofs.branch.branch.Kinds as branch-kinds
 use Rattle.search.proofs.branch.+branch.Lts-branch as branch-lts
 use Rattle.search.proofs.branch.leaf.Reads as leaf-reads
 use Rattle.search.proofs.choice.among.Reads as among-reads
-use Rattle.search.proofs.choice.choose.Reads as choose-reads
+use Rattle.search.proofs.choice.pick.Reads as pick-reads
 use Rattle.search.proofs.cut.is_bounded.Reads as is-bounded-reads
 use Rattle.search.proofs.cut.is_short.Reads as is-short-reads
 use Rattle.search.proofs.cut.is_swallowed.Reads as is-swallowed-reads
@@ -33,7 +33,7 @@ use Rattle.search.proofs.branch.+branch.{statement}
 use Rattle.search.proofs.branch.+branch.Tie.{close}
 
 abbrev μ-branch : Measures 3 branch-kinds.ps ℕ
-μ-branch κs a = mask (a .1 .1 .1 .1 .1 .1 .1 .1 .1 .1 .0)
+μ-branch κs a = mask (a .1 .1 .1 .1 .1 .1 .1 .1 .1 .0)
 
 abbrev branch-at : ℕ → In 3 branch-kinds.ps
 branch-at t = and 3 branch-kinds.ps (is 3 branch-kinds.ps μ-branch t) branch.Pre
@@ -58,8 +58,8 @@ calls t = (
   among-reads.Learnt,
   is-empty-reads.Asked,
   is-empty-reads.Learnt,
-  choose-reads.Asked,
-  choose-reads.Learnt,
+  pick-reads.Asked,
+  pick-reads.Learnt,
   without-reads.Asked,
   without-reads.Learnt,
   beside-reads.Asked,
@@ -123,58 +123,54 @@ module _ (t : ℕ) where
       stuck-adds _ _ _ _ _ _ _ (c .before .before .before .before .before .before .before .before .before .before .before .before .before .before .pre .1) _ (c .before .before .before .before .before .before .before .before .before .before .join .ensures) _ (c .before .before .before .before .before .before .before .survey .result .worst) (w .0) (omega (arith, w .1, c .before .before .before .before .before .if2 .left))
       (c .before .before .among .ensures .none (eqb-true _ _ (sym (c .before .is-empty .ensures) ∙ c .if4 .taken)))
 
-  choose-requires : branch-lts.Need-choose-requires (calls t) (branch-at t) branch.Post
-  choose-requires c κs =
+  pick-requires : branch-lts.Need-pick-requires (calls t) (branch-at t) branch.Post
+  pick-requires c κs =
       record {
-        pickable =
-            record {
-              some = positive-of _ (eqb-false _ _ (sym (c .before .is-empty .ensures) ∙ c .if4 .left));
-              below = sub-below _ _ _ (c .before .before .among .ensures .part) ((c .before .before .before .before .before .before .before .before .before .before .before .before .before .before .pre .1) .fine .candidates);
-            };
-        part = c .before .before .among .ensures .part;
+        some = positive-of _ (eqb-false _ _ (sym (c .before .is-empty .ensures) ∙ c .if4 .left));
+        below = sub-below _ _ _ (c .before .before .among .ensures .part) ((c .before .before .before .before .before .before .before .before .before .before .before .before .before .before .pre .1) .fine .candidates);
       }
 
   without-requires : branch-lts.Need-without-requires (calls t) (branch-at t) branch.Post
-  without-requires c κs = omega (arith, in-below _ _ _ ((c .before .before .before .before .before .before .before .before .before .before .before .before .before .before .before .pre .1) .fine .candidates) (c .choose .ensures), (c .before .before .before .before .before .before .before .before .before .before .before .before .before .before .before .pre .1) .settled .most)
+  without-requires c κs = omega (arith, in-below _ _ _ ((c .before .before .before .before .before .before .before .before .before .before .before .before .before .before .before .pre .1) .fine .candidates) (in-of-sub _ _ _ (c .before .before .before .among .ensures .part) (c .pick .ensures)), (c .before .before .before .before .before .before .before .before .before .before .before .before .before .before .before .pre .1) .settled .most)
 
   beside-requires : branch-lts.Need-beside-requires (calls t) (branch-at t) branch.Post
-  beside-requires c κs = ready-joinable _ _ _ _ _ _ _ (c .before .before .before .before .before .before .before .before .before .before .before .before .before .before .before .before .pre .1) _ (c .before .choose .ensures)
+  beside-requires c κs = ready-joinable _ _ _ _ _ _ _ (c .before .before .before .before .before .before .before .before .before .before .before .before .before .before .before .before .pre .1) _ (in-of-sub _ _ _ (c .before .before .before .before .among .ensures .part) (c .before .pick .ensures))
 
   sift-requires : branch-lts.Need-sift-requires (calls t) (branch-at t) branch.Post
-  sift-requires c κs = ready-siftable _ _ _ _ _ _ _ (c .before .before .before .before .before .before .before .before .before .before .before .before .before .before .before .before .before .pre .1) _ (c .before .before .choose .ensures) _ (c .beside .ensures _ ((c .before .before .before .before .before .before .before .before .before .before .before .before .before .before .before .before .before .pre .1) .settled .near))
+  sift-requires c κs = ready-siftable _ _ _ _ _ _ _ (c .before .before .before .before .before .before .before .before .before .before .before .before .before .before .before .before .before .pre .1) _ (in-of-sub _ _ _ (c .before .before .before .before .before .among .ensures .part) (c .before .before .pick .ensures)) _ (c .beside .ensures _ ((c .before .before .before .before .before .before .before .before .before .before .before .before .before .before .before .before .before .pre .1) .settled .near))
 
   branch-requires : branch-lts.Need-branch-requires (calls t) (branch-at t) branch.Post
   branch-requires c κs = (
-    omega (arith, without-falls _ _ _ _ _ _ _ (c .before .before .before .before .before .before .before .before .before .before .before .before .before .before .before .before .before .before .before .pre .1) _ (c .before .before .before .before .choose .ensures) _ (c .before .sift .ensures) _ (c .before .before .before .without .ensures), c .before .before .before .before .before .before .before .before .before .before .before .before .before .before .before .before .before .before .before .pre .0),
-    without-ready _ _ _ _ _ _ _ (c .before .before .before .before .before .before .before .before .before .before .before .before .before .before .before .before .before .before .before .pre .1) _ (c .before .before .before .before .choose .ensures) _ (c .before .sift .ensures) _ (c .before .before .before .without .ensures),
+    omega (arith, without-falls _ _ _ _ _ _ _ (c .before .before .before .before .before .before .before .before .before .before .before .before .before .before .before .before .before .before .before .pre .1) _ (in-of-sub _ _ _ (c .before .before .before .before .before .before .before .among .ensures .part) (c .before .before .before .before .pick .ensures)) _ (c .before .sift .ensures) _ (c .before .before .before .without .ensures), c .before .before .before .before .before .before .before .before .before .before .before .before .before .before .before .before .before .before .before .pre .0),
+    without-ready _ _ _ _ _ _ _ (c .before .before .before .before .before .before .before .before .before .before .before .before .before .before .before .before .before .before .before .pre .1) _ (in-of-sub _ _ _ (c .before .before .before .before .before .before .before .among .ensures .part) (c .before .before .before .before .pick .ensures)) _ (c .before .sift .ensures) _ (c .before .before .before .without .ensures),
   )
 
   is-bounded-requires : branch-lts.Need-is-bounded-requires (calls t) (branch-at t) branch.Post
-  is-bounded-requires c κs = with-boundable _ _ _ _ _ _ _ (c .before .before .before .before .before .before .before .before .before .before .before .before .before .before .before .before .before .before .before .before .before .before .pre .1) _ (c .before .before .before .before .before .before .before .choose .ensures) _ (c .before .before .before .before .sift .ensures)
+  is-bounded-requires c κs = with-boundable _ _ _ _ _ _ _ (c .before .before .before .before .before .before .before .before .before .before .before .before .before .before .before .before .before .before .before .before .before .before .pre .1) _ (in-of-sub _ _ _ (c .before .before .before .before .before .before .before .before .before .before .among .ensures .part) (c .before .before .before .before .before .before .before .pick .ensures)) _ (c .before .before .before .before .sift .ensures)
 
   same-length-2 : branch-lts.Need-same-length-2 (calls t) (branch-at t) branch.Post
   same-length-2 c = search needs
 
   returns-5 : branch-lts.Need-returns-5 (calls t) (branch-at t) branch.Post
-  returns-5 c = without-adds _ _ _ _ _ _ _ (c .before .before .before .before .before .before .before .before .before .before .before .before .before .before .before .before .before .before .before .before .before .before .before .before .pre .1) _ (c .before .before .before .before .before .before .before .before .before .choose .ensures) _ (c .before .before .before .before .before .before .sift .ensures) _ (c .before .before .before .before .before .before .before .before .without .ensures) _ _ _ (c .before .before .before .before .branch .ensures) (c .before .is-bounded .ensures (c .if5 .taken))
+  returns-5 c = without-adds _ _ _ _ _ _ _ (c .before .before .before .before .before .before .before .before .before .before .before .before .before .before .before .before .before .before .before .before .before .before .before .before .pre .1) _ (in-of-sub _ _ _ (c .before .before .before .before .before .before .before .before .before .before .before .before .among .ensures .part) (c .before .before .before .before .before .before .before .before .before .pick .ensures)) _ (c .before .before .before .before .before .before .sift .ensures) _ (c .before .before .before .before .before .before .before .before .without .ensures) _ _ _ (c .before .before .before .before .branch .ensures) (c .before .is-bounded .ensures (c .if5 .taken))
 
   with-requires : branch-lts.Need-with-requires (calls t) (branch-at t) branch.Post
-  with-requires c κs = omega (arith, in-below _ _ _ ((c .before .before .before .before .before .before .before .before .before .before .before .before .before .before .before .before .before .before .before .before .before .before .before .before .pre .1) .fine .candidates) (c .before .before .before .before .before .before .before .before .before .choose .ensures), (c .before .before .before .before .before .before .before .before .before .before .before .before .before .before .before .before .before .before .before .before .before .before .before .before .pre .1) .settled .most)
+  with-requires c κs = omega (arith, in-below _ _ _ ((c .before .before .before .before .before .before .before .before .before .before .before .before .before .before .before .before .before .before .before .before .before .before .before .before .pre .1) .fine .candidates) (in-of-sub _ _ _ (c .before .before .before .before .before .before .before .before .before .before .before .before .among .ensures .part) (c .before .before .before .before .before .before .before .before .before .pick .ensures)), (c .before .before .before .before .before .before .before .before .before .before .before .before .before .before .before .before .before .before .before .before .before .before .before .before .pre .1) .settled .most)
 
   fewer-requires : branch-lts.Need-fewer-requires (calls t) (branch-at t) branch.Post
   fewer-requires c κs = tt
 
   branch-requires-2 : branch-lts.Need-branch-requires-2 (calls t) (branch-at t) branch.Post
   branch-requires-2 c κs = (
-    omega (arith, with-falls _ _ _ _ _ _ _ (c .before .before .before .before .before .before .before .before .before .before .before .before .before .before .before .before .before .before .before .before .before .before .before .before .before .before .before .pre .1) _ (c .before .before .before .before .before .before .before .before .before .before .before .before .choose .ensures) _ (c .before .before .before .before .before .before .before .before .before .sift .ensures), c .before .before .before .before .before .before .before .before .before .before .before .before .before .before .before .before .before .before .before .before .before .before .before .before .before .before .before .pre .0),
-    with-ready _ _ _ _ _ _ _ (c .before .before .before .before .before .before .before .before .before .before .before .before .before .before .before .before .before .before .before .before .before .before .before .before .before .before .before .pre .1) _ (c .before .before .before .before .before .before .before .before .before .before .before .before .choose .ensures) _ (c .before .before .before .before .before .before .before .before .before .sift .ensures) _ (c .before .before .before .before .before .before .before .before .before .before .before .without .ensures) _ _ _ (c .before .before .before .before .before .before .before .branch .ensures) _ (c .before .before .with .ensures),
+    omega (arith, with-falls _ _ _ _ _ _ _ (c .before .before .before .before .before .before .before .before .before .before .before .before .before .before .before .before .before .before .before .before .before .before .before .before .before .before .before .pre .1) _ (in-of-sub _ _ _ (c .before .before .before .before .before .before .before .before .before .before .before .before .before .before .before .among .ensures .part) (c .before .before .before .before .before .before .before .before .before .before .before .before .pick .ensures)) _ (c .before .before .before .before .before .before .before .before .before .sift .ensures), c .before .before .before .before .before .before .before .before .before .before .before .before .before .before .before .before .before .before .before .before .before .before .before .before .before .before .before .pre .0),
+    with-ready _ _ _ _ _ _ _ (c .before .before .before .before .before .before .before .before .before .before .before .before .before .before .before .before .before .before .before .before .before .before .before .before .before .before .before .pre .1) _ (in-of-sub _ _ _ (c .before .before .before .before .before .before .before .before .before .before .before .before .before .before .before .among .ensures .part) (c .before .before .before .before .before .before .before .before .before .before .before .before .pick .ensures)) _ (c .before .before .before .before .before .before .before .before .before .sift .ensures) _ (c .before .before .before .before .before .before .before .before .before .before .before .without .ensures) _ _ _ (c .before .before .before .before .before .before .before .branch .ensures) _ (c .before .before .with .ensures),
   )
 
   same-length-3 : branch-lts.Need-same-length-3 (calls t) (branch-at t) branch.Post
   same-length-3 c = search needs
 
   returns-6 : branch-lts.Need-returns-6 (calls t) (branch-at t) branch.Post
-  returns-6 c = branches-add _ _ _ _ _ _ _ (c .before .before .before .before .before .before .before .before .before .before .before .before .before .before .before .before .before .before .before .before .before .before .before .before .before .before .before .before .before .before .pre .1) _ (c .before .before .before .before .before .before .before .before .before .before .before .before .before .before .before .choose .ensures) _ (c .before .before .before .before .before .before .before .before .before .before .before .before .sift .ensures) _ (c .before .before .before .before .before .before .before .before .before .before .before .before .before .before .without .ensures) _ _ _ (c .before .before .before .before .before .before .before .before .before .before .branch .ensures) _ (c .before .before .before .before .before .with .ensures) _ _ (c .before .before .branch2 .ensures)
+  returns-6 c = branches-add _ _ _ _ _ _ _ (c .before .before .before .before .before .before .before .before .before .before .before .before .before .before .before .before .before .before .before .before .before .before .before .before .before .before .before .before .before .before .pre .1) _ (in-of-sub _ _ _ (c .before .before .before .before .before .before .before .before .before .before .before .before .before .before .before .before .before .before .among .ensures .part) (c .before .before .before .before .before .before .before .before .before .before .before .before .before .before .before .pick .ensures)) _ (c .before .before .before .before .before .before .before .before .before .before .before .before .sift .ensures) _ (c .before .before .before .before .before .before .before .before .before .before .before .before .before .before .without .ensures) _ _ _ (c .before .before .before .before .before .before .before .before .before .before .branch .ensures) _ (c .before .before .before .before .before .with .ensures) _ _ (c .before .before .branch2 .ensures)
 
 pub +branch-spec : {M : Type 1} → statement M
 +branch-spec =
@@ -191,7 +187,7 @@ pub +branch-spec : {M : Type 1} → statement M
     (among-requires t)
     (is-empty-requires t)
     (returns-4 t)
-    (choose-requires t)
+    (pick-requires t)
     (without-requires t)
     (beside-requires t)
     (sift-requires t)

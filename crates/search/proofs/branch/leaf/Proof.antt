@@ -12,8 +12,8 @@ is-swallowed-requires c κs = c .before .before .pre .unblocking
 returns : tie.Need-returns
 returns c = unless-none _ _ _ _ _ (sym (c .before .is-swallowed .ensures) ∙ c .if1 .taken)
 
-insert-requires : tie.Need-insert-requires
-insert-requires c κs = c .before .before .before .before .before .pre .room (false-fails _ (sym (c .before .before .is-swallowed .ensures) ∙ c .before .if1 .left))
+push-requires : tie.Need-push-requires
+push-requires c κs = c .before .before .before .before .before .pre .room (false-fails _ (sym (c .before .before .is-swallowed .ensures) ∙ c .before .if1 .left))
 
 same-length : tie.Need-same-length
 same-length c = search needs
@@ -21,8 +21,8 @@ same-length c = search needs
 returns-2 : tie.Need-returns-2
 returns-2 c =
     unless-one _ _ _ _ _ _ _ (sym (c .before .before .before .before .before .is-swallowed .ensures) ∙ c .before .before .before .before .if1 .left)
-    (c .before .before .insert .ensures _ (c .before .before .before .before .before .before .before .before .pre .below))
+    (c .before .before .push .ensures _ (c .before .before .before .before .before .before .before .before .pre .below))
 
 pub leaf-spec : {M : Type 1} → statement M
 leaf-spec =
-    tie.close (tie.spec is-swallowed-requires returns insert-requires same-length returns-2)
+    tie.close (tie.spec is-swallowed-requires returns push-requires same-length returns-2)

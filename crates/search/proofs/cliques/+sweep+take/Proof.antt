@@ -37,10 +37,10 @@ use Rattle.search.proofs.cliques.+sweep+take.{statement}
 use Rattle.search.proofs.cliques.+sweep+take.Tie.{close}
 
 abbrev μ-sweep : Measures 2 sweep-kinds.ps ℕ
-μ-sweep κs a = 2 * bitOr (mask (a .1 .1 .1 .1 .1 .0)) (mask (a .1 .1 .1 .1 .1 .1 .1 .0))
+μ-sweep κs a = 2 * bitOr (mask (a .1 .1 .1 .1 .0)) (mask (a .1 .1 .1 .1 .1 .1 .0))
 
 abbrev μ-take : Measures 2 take-kinds.ps ℕ
-μ-take κs a = 2 * mask (a .1 .1 .1 .1 .1 .0) + 1
+μ-take κs a = 2 * mask (a .1 .1 .1 .1 .0) + 1
 
 abbrev sweep-at : ℕ → In 2 sweep-kinds.ps
 sweep-at t = and 2 sweep-kinds.ps (is 2 sweep-kinds.ps μ-sweep t) sweep.Pre
@@ -55,11 +55,11 @@ abbrev take-below : ℕ → In 2 take-kinds.ps
 take-below t = and 2 take-kinds.ps (falls 2 take-kinds.ps _<_ μ-take t) take.Pre
 
 abbrev Inv-loop : sweep-lts.InvT-loop
-Inv-loop rows q wide have s base m todo slots₀ count more waiting₀ left₀ n₀ slots waiting left n =
+Inv-loop rows q have s base m todo slots₀ count more waiting₀ left₀ n₀ slots waiting left n =
     Swept (masks rows) q have (mask s) (mask base) (mask m) (mask todo) (masks slots₀) count (mask waiting) (mask left) (masks slots) n × (length slots ≡ length slots₀)
 
 abbrev μ-loop : sweep-lts.MeasureT-loop
-μ-loop rows q wide have s base m todo slots₀ count more waiting₀ left₀ n₀ slots waiting left n = mask left
+μ-loop rows q have s base m todo slots₀ count more waiting₀ left₀ n₀ slots waiting left n = mask left
 
 -- what the callees ask and give
 abbrev sweep-calls : ℕ → sweep-lts.Claims
@@ -146,7 +146,7 @@ module _ (t : ℕ) where
 
   sweep-loop-again : sweep-lts.Need-loop-again (sweep-calls t) (sweep-at t) sweep.Post Inv-loop μ-loop
   sweep-loop-again c =
-      (swept-more _ _ _ _ _ _ _ _ _ _ _ _ _ (c .before .before .before .before .before .before .before .before .before .before .before .before .before .loop .inv .0) _ (c .before .before .before .before .before .before .before .before .before .before .lowest .ensures .member) _ _ _ (c .before .before .before .before .before .before .before .meet .ensures ∙ ap (bitAnd (mask (c .before .before .before .before .before .before .before .before .before .before .before .before .before .loop .waiting))) (c .before .before .before .before .before .before .before .before .before .get .ensures)) (c .before .before .before .before .with2 .ensures) (c .before .before .before .before .before .rest .ensures) _ (c .before .before .before .before .before .before .before .before .with .ensures) _ _ (c .before .before .take .ensures), c .before .before .take .kept .1 .1 .1 .1 .1 .1 .1 .0 ∙ c .before .before .before .before .before .before .before .before .before .before .before .before .before .loop .inv .1)
+      (swept-more _ _ _ _ _ _ _ _ _ _ _ _ _ (c .before .before .before .before .before .before .before .before .before .before .before .before .before .loop .inv .0) _ (c .before .before .before .before .before .before .before .before .before .before .lowest .ensures .member) _ _ _ (c .before .before .before .before .before .before .before .meet .ensures ∙ ap (bitAnd (mask (c .before .before .before .before .before .before .before .before .before .before .before .before .before .loop .waiting))) (c .before .before .before .before .before .before .before .before .before .get .ensures)) (c .before .before .before .before .with2 .ensures) (c .before .before .before .before .before .rest .ensures) _ (c .before .before .before .before .before .before .before .before .with .ensures) _ _ (c .before .before .take .ensures), c .before .before .take .kept .1 .1 .1 .1 .1 .1 .0 ∙ c .before .before .before .before .before .before .before .before .before .before .before .before .before .loop .inv .1)
 
   sweep-same-length : sweep-lts.Need-same-length (sweep-calls t) (sweep-at t) sweep.Post Inv-loop μ-loop
   sweep-same-length c = c .before .before .loop .inv .1
