@@ -3,7 +3,7 @@
 --   width       the most vertices that a set can have
 --   mask w      the set that is stored as w
 --   masks ws    the sets that are stored in lent words, by position: the rows of a graph, the slots of a buffer
---   Lowest s v  v is the lowest member of the set s;  Highest s v, the highest
+--   Lowest s v  v is the lowest member of the set s
 use Prim.Native.Nat.{ℕ, _<_, _^_}
 use mathlib.Core.Path.{_≡_, refl}
 use mathlib.Core.List.{List}
@@ -23,11 +23,6 @@ pub record Lowest (s v : ℕ) : Type 0 where
   pub fits : v < width
   pub member : In v s
   pub least : (u : ℕ) → u < v → bit s u ≡ 0
-
-pub record Highest (s v : ℕ) : Type 0 where
-  pub fits : v < width
-  pub member : In v s
-  pub above : (u : ℕ) → v < u → bit s u ≡ 0
 
 -- ---- words where they are words: sheets, slots, the C surface
 

@@ -1,13 +1,13 @@
 // Sets of vertices, and every operation on one. This is the only crate with bit arithmetic: the others
 // touch a set through these functions, and their contracts speak of its mask.
 ghost use mathlib.Core.Path.{_≡_};
-ghost use Prim.Native.Nat.{_-_, _^_, _<_, _≤_};
+ghost use Prim.Native.Nat.{_-_, _^_, _<_, _≤_, min, max};
 ghost use mathlib.Core.Bool.{cond};
 ghost use lib.Dec.{eqb, ltb};
 ghost use lib.Bits.{bitAnd, bitOr};
 ghost use lib.ListN.{length, set};
 ghost use Rattle.sets.specs.Set.{bit, has, size, subset, with, minus, without, full};
-ghost use Rattle.sets.specs.Words.{width, mask, masks, Lowest, Highest};
+ghost use Rattle.sets.specs.Words.{width, mask, masks, Lowest};
 ghost use Rattle.sets.specs.Graph.{row};
 
 // A set of vertices: v is a member where the bit of value 2^v is set.
@@ -90,6 +90,26 @@ pub fn precedes(s: Set, t: Set) -> bool
     s < t
 }
 
+// The one of s and t that comes first in the order of masks.
+pub fn earlier(s: Set, t: Set) -> Set
+    ensures { λ r. ⌜ mask r ≡ min (mask s) (mask t) ⌝ }
+{
+    if s < t {
+        return s;
+    }
+    t
+}
+
+// The one that comes last.
+pub fn later(s: Set, t: Set) -> Set
+    ensures { λ r. ⌜ mask r ≡ max (mask s) (mask t) ⌝ }
+{
+    if s < t {
+        return t;
+    }
+    s
+}
+
 // The members that s and t share.
 pub fn meet(s: Set, t: Set) -> Set
     ensures { λ r. ⌜ mask r ≡ bitAnd (mask s) (mask t) ⌝ }
@@ -149,14 +169,6 @@ pub fn lowest(s: Set) -> usize
     ensures { λ r. ⌜ Lowest (mask s) r ⌝ }
 {
     u64::trailing_zeros(s) as usize
-}
-
-// The highest member of s.
-pub fn highest(s: Set) -> usize
-    requires { ⌜ 0 < mask s ⌝ }
-    ensures { λ r. ⌜ Highest (mask s) r ⌝ }
-{
-    WIDTH - 1 - u64::leading_zeros(s) as usize
 }
 
 // s without its lowest member v: the step of a walk through the members.

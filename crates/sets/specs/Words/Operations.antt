@@ -1,5 +1,5 @@
 -- What each operation on stored sets does to their masks. These laws hold for sets of one word.
-use Prim.Native.Nat.{ℕ, _+_, _-_, _*_, _/_, _%_, _^_, _≤_, _<_}
+use Prim.Native.Nat.{ℕ, _+_, _-_, _*_, _/_, _%_, _^_, _≤_, _<_, min, max}
 use native.Mathlib.Omega.{arith}
 use native.Mathlib.Nat.{mod-lt, zero-mul}
 use mathlib.Core.Path.{_≡_, refl, ap, _∙_}
@@ -9,13 +9,13 @@ use lib.Dec.{eqb, leb, ltb}
 use lib.Bits.{bitAnd, bitOr, and-mask}
 use lib.Pow.{pow-pos}
 use mir.Val.{boolByte}
-use lib.Count.{leadingZeros, ones, ones-le, trailingZeros}
+use lib.Count.{ones, ones-le, trailingZeros}
 use lib.ListN.{length, getD, set, take, drop}
 use Rattle.sets.specs.Set.{bit, has, size, subset, with, minus, without, full}
 use Rattle.sets.specs.SubsetLaws.{minus-none}
 use Rattle.sets.specs.Graph.{row}
-use Rattle.sets.specs.Words.{width, mask, masks, Lowest, Highest}
-use Rattle.sets.specs.WordLaws.{shift-one, shift-ones, shifted-has, le-ones-lt, and-not, trailing-lowest, leading-highest, clear-lowest}
+use Rattle.sets.specs.Words.{width, mask, masks, Lowest}
+use Rattle.sets.specs.WordLaws.{shift-one, shift-ones, shifted-has, le-ones-lt, and-not, trailing-lowest, clear-lowest}
 
 pub empty-mask : mask 0 ≡ 0
 unfolding mask
@@ -93,16 +93,6 @@ lowest-mask s h p =
     let r = trailing-lowest width s p h in
     record { fits = r .0; member = r .1; least = r .2 }
 
-pub leading-fits : (s : ℕ) → s < 2 ^ width → 0 < mask s → leadingZeros width s < width
-unfolding mask
-leading-fits s h p = leading-highest width s p h .0
-
-pub highest-mask : (s : ℕ) → s < 2 ^ width → 0 < mask s → Highest (mask s) (width - 1 - leadingZeros width s)
-unfolding mask
-highest-mask s h p =
-    let r = leading-highest width s p h in
-    record { fits = omega arith; member = r .1; above = r .2 }
-
 pub rest-mask : (s v : ℕ) → Lowest (mask s) v → mask (bitAnd s (s - 1)) ≡ without (mask s) v
 unfolding mask
 rest-mask s v h = clear-lowest s v (h .member) (h .least)
@@ -122,6 +112,14 @@ put-masks ws i s = refl
 pub precedes-mask : (s t : ℕ) → ltb s t ≡ ltb (mask s) (mask t)
 unfolding mask
 precedes-mask s t = refl
+
+pub earlier-mask : (s t : ℕ) → (s < t → mask s ≡ min (mask s) (mask t)) × (t ≤ s → mask t ≡ min (mask s) (mask t))
+unfolding mask
+earlier-mask s t = (λ l. omega arith, λ l. omega arith)
+
+pub later-mask : (s t : ℕ) → (s < t → mask t ≡ max (mask s) (mask t)) × (t ≤ s → mask s ≡ max (mask s) (mask t))
+unfolding mask
+later-mask s t = (λ l. omega arith, λ l. omega arith)
 
 -- ---- parts of lent words
 
