@@ -142,6 +142,15 @@ fn cuts(only: Option<&str>, rivals: bool, limit: Duration) {
     }
 }
 
+/// The medians of the times of two pieces of work and of their ratio, in turns: one round to warm up, then nine, or as many as three seconds allow, but three.
+fn against(first: impl Fn() -> usize, mut second: impl FnMut() -> usize) -> (f64, f64, f64) {
+    let mut round = || (clock::timed(&first).1, clock::timed(&mut second).1);
+    let (a, b) = round();
+    let rounds: Vec<(f64, f64)> = (0..((3000.0 / (a + b)) as usize).clamp(3, 9)).map(|_| round()).collect();
+    let median_of = |value: fn(&(f64, f64)) -> f64| median(rounds.iter().map(value).collect());
+    (median_of(|r| r.0), median_of(|r| r.1), median_of(|r| r.1 / r.0))
+}
+
 /// Listing into enough slots, against counting.
 fn placing() {
     println!("\n## Placing\n");
@@ -156,18 +165,16 @@ fn placing() {
         ("random 0.9", instances::random(64, 0.9, 1), 1, 11),
     ];
     for (name, rows, k, q) in cases {
-        let (m, counting) = measure(|| kadvisk::count(&rows, k, q).expect("a valid graph"));
+        let count = || kadvisk::count(&rows, k, q).expect("a valid graph");
+        let m = count();
         // the program's 4,096 slots, and enough of them
         for room in [4096, m] {
             if room == 4096 && m <= 4096 {
                 continue;
             }
             let mut slots = vec![0; room];
-            // shifting grows with the square of m: beyond a million it is measured once
-            let mut list = || clock::timed(|| kadvisk::list(&rows, k, q, &mut slots).is_ok() as usize).1;
-            let first = list();
-            let listing = if first > 500.0 { first } else { median((0..5).map(|_| list()).collect()) };
-            println!("| {name} | {k} | {q} | {m} | {room} | {counting:.2} | {listing:.2} | {:.2} |", listing / counting);
+            let (counting, listing, ratio) = against(count, || kadvisk::list(&rows, k, q, &mut slots).is_ok() as usize);
+            println!("| {name} | {k} | {q} | {m} | {room} | {counting:.2} | {listing:.2} | {ratio:.2} |");
         }
     }
 }

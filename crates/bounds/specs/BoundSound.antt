@@ -15,7 +15,7 @@ use Rattle.sets.specs.Graph.{row}
 use Rattle.judging.specs.Graph.{adjacent, missing, Valid}
 use Rattle.judging.specs.Plex.{plex, Plex}
 use Rattle.bounds.specs.Bound.{support, usable, ordered, supports, firstBound, secondBound, largest}
-use Rattle.sets.specs.RangeLaws.{Mem, range-mem, keep-mem, both, and-left, and-right}
+use Rattle.sets.specs.RangeLaws.{Mem, length-from, range-mem, keep-mem, both, and-left, and-right}
 use Rattle.sets.specs.BitLaws.{bit-le, bit-and, bit-or, bit-minus}
 use Rattle.sets.specs.SubsetLaws.{has-in, in-has, minus-sub, in-below, with-sub, sub-with, with-same, sub-trans, in-of-sub, subset-sub}
 use Rattle.sets.specs.SizeLaws.{size-mono, size-minus, size-sum, minus-below}
@@ -54,11 +54,6 @@ getD-map-from f i (suc m) (suc j) l = getD-map-from f (suc i) m j (le-of-suc-le-
 pub getD-map-range : (f : ℕ → ℕ) (n j : ℕ) → j < n → getD (map f (range n)) j 0 ≡ f j
 unfolding range
 getD-map-range f n j l = getD-map-from f 0 n j l ∙ ap f (omega arith)
-
-length-from : (i m : ℕ) → length (from i m) ≡ m
-unfolding from
-length-from i zero = refl
-length-from i (suc m) = ap suc (length-from (suc i) m)
 
 pub length-range : (n : ℕ) → length (range n) ≡ n
 unfolding range

@@ -1,5 +1,6 @@
 -- What the proofs of placing and sorting share.
 pub mod PartLaws
+pub mod PushLaws
 pub mod ShiftLaws
 pub mod InsertLaws
 pub mod SplitLaws

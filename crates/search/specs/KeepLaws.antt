@@ -1,46 +1,19 @@
 -- Laws of the elements that pass a test: where two tests agree, how many pass, and the order of those of a range.
 --
 --   Rising b xs   the first element is at least b, and each later one is above those before it
-use Prim.Native.Nat.{ℕ, zero, suc, _+_, _≤_, _<_}
-use native.Mathlib.Nat.{add-zero, zero-add, suc-add, add-suc, le-refl, le-trans, le-of-suc-le-suc, not-suc-le-zero}
+use Prim.Native.Nat.{ℕ, zero, suc, _+_, _≤_}
+use native.Mathlib.Nat.{le-refl, le-trans}
 use native.Mathlib.Omega.{arith}
 use mathlib.Core.Path.{_≡_, refl, sym, ap, ap₂, _∙_}
 use mathlib.Core.Logic.{_⊎_, inl, inr}
 use mathlib.Core.Bool.{Bool, true, false, _||_, cond}
-use mathlib.Core.List.{List, [], _∷_, _++_, List·Memᴰ·head, List·Memᴰ·tail, List·Memᴰ·cases-cons, List·Memᴰ·not-nil}
+use mathlib.Core.List.{List, [], _∷_, List·Memᴰ·head, List·Memᴰ·tail, List·Memᴰ·cases-cons, List·Memᴰ·not-nil}
 use lib.Dec.{T}
-use lib.ListN.{length, getD}
+use lib.ListN.{length}
 use Rattle.sets.specs.Ranges.{from, keep}
 use Rattle.sets.specs.RangeLaws.{Mem, true-holds}
 
--- ---- ranges
-
-pub from-append : (a j k : ℕ) → from a (j + k) ≡ from a j ++ from (a + j) k
-unfolding from
-from-append a zero k = rw (zero-add, add-zero)
-from-append a (suc j) k =
-    rw (suc-add j k) (ap (λ (l : List ℕ). a ∷ l) (from-append (suc a) j k ∙ ap (λ (n : ℕ). from (suc a) j ++ from n k) (suc-add a j ∙ sym (add-suc a j))))
-
-pub length-from : (a k : ℕ) → length (from a k) ≡ k
-unfolding from
-length-from a zero = refl
-length-from a (suc k) = ap suc (length-from (suc a) k)
-
-pub getD-mem : (xs : List ℕ) (i d : ℕ) → i < length xs → Mem (getD xs i d) xs
-getD-mem [] i d l = absurd (not-suc-le-zero l)
-getD-mem (x ∷ xs) zero d l = List·Memᴰ·head refl
-getD-mem (x ∷ xs) (suc i) d l = List·Memᴰ·tail (getD-mem xs i d (le-of-suc-le-suc l))
-
 -- ---- the elements that pass
-
-pub keep-append : (p : ℕ → Bool) (xs ys : List ℕ) → keep p (xs ++ ys) ≡ keep p xs ++ keep p ys
-unfolding keep
-keep-append p [] ys = refl
-keep-append p (x ∷ xs) ys = go (p x) (keep-append p xs ys)
-  where
-    go : (b : Bool) → keep p (xs ++ ys) ≡ keep p xs ++ keep p ys → cond b (x ∷ keep p (xs ++ ys)) (keep p (xs ++ ys)) ≡ cond b (x ∷ keep p xs) (keep p xs) ++ keep p ys
-    go true e = ap (λ (l : List ℕ). x ∷ l) e
-    go false e = e
 
 pub keep-ext : (p q : ℕ → Bool) (xs : List ℕ) → ((v : ℕ) → Mem v xs → p v ≡ q v) → keep p xs ≡ keep q xs
 unfolding keep

@@ -17,7 +17,7 @@ use Rattle.search.specs.OrderLaws.{rising-ordered, ordered-unique}
 use Rattle.search.specs.Placing.{passing, Adds}
 use Rattle.search.specs.Listing.{listed, listing, Listed}
 use Rattle.search.specs.KeepLaws.{keep-none, Rising, keep-rising, rising-unique}
-use Rattle.search.specs.PlacingLaws.{number-le, number-lt, adds-all}
+use Rattle.search.specs.PlacingLaws.{number-lt, adds-all}
 
 module _ (g : List ℕ) (k q : ℕ) where
   -- the statement behind the test
@@ -66,11 +66,7 @@ module _ (g : List ℕ) (k q : ℕ) where
       few : (s : ℕ) → Listed g k q s → ⊥
       few s h = omega (arith, ones-le (length g) s (h .below), h .large)
 
-  pub listing-length : length (listing g k q) ≤ 2 ^ length g
-  unfolding listing
-  listing-length = number-le (2 ^ length g) (listed g k q)
-
-  -- one less, as the empty set is not listed: so m fits a word of as many bits as there are vertices
+  -- the empty set is not listed: so m fits a word of as many bits as there are vertices
   pub listing-fits : 1 ≤ q → length (listing g k q) < 2 ^ length g
   unfolding listing
   listing-fits l = number-lt (2 ^ length g) (listed g k q) (pow-pos (length g)) (empty-unlisted l)

@@ -5,14 +5,14 @@ use native.Mathlib.Omega.{arith}
 use mathlib.Core.Path.{_≡_, refl, sym, ap, _∙_, subst}
 use mathlib.Core.Logic.{_⊎_, inl, inr}
 use mathlib.Core.Bool.{Bool, true, false, _||_, cond}
-use mathlib.Core.List.{List, [], _∷_, _++_, List·Memᴰ·head, List·Memᴰ·eq-of-singleton}
+use mathlib.Core.List.{List, [], _∷_, List·Memᴰ·head, List·Memᴰ·eq-of-singleton}
 use lib.Dec.{T, eqb, eqb→eq, eqb-refl}
-use lib.ListN.{length, drop}
+use lib.ListN.{length}
 use Rattle.sets.specs.Ranges.{from, range, keep}
-use Rattle.sets.specs.RangeLaws.{mem-range, range-mem, keep-mem, mem-keep, or-cases, or-left, or-right}
+use Rattle.sets.specs.RangeLaws.{length-from, mem-range, range-mem, keep-mem, mem-keep, or-cases, or-left, or-right}
 use Rattle.search.specs.Order.{times}
 use Rattle.search.specs.Placing.{passing, number, union, only, Apart, Holds, Adds}
-use Rattle.search.specs.KeepLaws.{length-from, keep-ext, keep-none, keep-length, keep-either, keep-rising, rising-unique}
+use Rattle.search.specs.KeepLaws.{keep-ext, keep-none, keep-length, keep-either, keep-rising, rising-unique}
 
 -- two tests that imply each other are equal
 pub same-test : (a b : Bool) → (T a → T b) → (T b → T a) → a ≡ b
@@ -32,11 +32,7 @@ or-assoc false b c = refl
 
 -- ---- how many pass
 
-pub number-le : (N : ℕ) (P : ℕ → Bool) → number N P ≤ N
-unfolding range
-number-le N P = omega (arith, keep-length P (from 0 N), length-from 0 N)
-
--- one less where 0 does not pass
+-- not all pass where 0 does not
 pub number-lt : (N : ℕ) (P : ℕ → Bool) → 0 < N → (T (P 0) → ⊥) → number N P < N
 unfolding range from keep
 number-lt zero P l f = l
@@ -103,12 +99,6 @@ module _ (N : ℕ) where
         holds-same first b (union P Q) (union P R) n (λ x l. ap (λ (t : Bool). P x || t) (e x l))
         (s .holds first P (λ x l p q. d x l p (subst T (e x l) q)) h);
   }
-
-  -- where x alone passes, adding x is all: a leaf
-  pub adds-one : (R : ℕ → Bool) (x : ℕ) (a b : List ℕ) (m n : ℕ) → T (R x) → ((y : ℕ) → y < N → T (R y) → y ≡ x)
-      → Adds N (only x) a m b n → Adds N R a m b n
-  adds-one R x a b m n t f s =
-      adds-same (only x) R a b m n (λ y l. same-test (eqb y x) (R y) (λ q. subst (λ (z : ℕ). T (R z)) (sym (eqb→eq y x q)) t) (λ q. subst (λ (z : ℕ). T (eqb y z)) (f y l q) (eqb-refl y))) s
 
   -- one step after the other, where the second adds what the first did not
   pub adds-both : (Q R : ℕ → Bool) (a b c : List ℕ) (m n o : ℕ) → Apart N Q R → Adds N Q a m b n → Adds N R b n c o → Adds N (union Q R) a m c o

@@ -1,5 +1,4 @@
 -- `sets::earlier` meets its contract.
-use native.Mathlib.Omega.{arith}
 use Rattle.sets.specs.Words.Operations.{earlier-mask}
 use Rattle.sets.proofs.earlier.Statement.{statement}
 use Rattle.sets.proofs.earlier.Tie as tie

@@ -1,5 +1,4 @@
 -- `sets::later` meets its contract.
-use native.Mathlib.Omega.{arith}
 use Rattle.sets.specs.Words.Operations.{later-mask}
 use Rattle.sets.proofs.later.Statement.{statement}
 use Rattle.sets.proofs.later.Tie as tie
