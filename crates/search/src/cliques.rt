@@ -15,7 +15,9 @@ ghost use Rattle.search.specs.Choice.{Pickable};
 use sets::Set;
 
 // Does a clique lack many members? Most branches are then cut by the floor, and a pivot that leaves few candidates is good enough.
-pub fn is_far(q: usize, have: usize) -> bool {
+pub fn is_far(q: usize, have: usize) -> bool
+    ensures { λ r. ⌜ r ≡ ltb (have + 8) q ⌝ }
+{
     if q <= have {
         return false;
     }

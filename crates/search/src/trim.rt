@@ -3,7 +3,8 @@ ghost use Rattle.sets.specs.Words.{mask, masks};
 ghost use Rattle.search.specs.TrimLaws.{Trimmable, Unblocked, Cheapened, Joinable, Beside};
 ghost use Rattle.search.specs.SiftLaws.{Siftable};
 ghost use Rattle.search.specs.Found.{Near};
-ghost use Prim.Native.Nat.{ℕ};
+ghost use Prim.Native.Nat.{ℕ, _-_};
+ghost use mathlib.Core.Path.{_≡_};
 use sets::Set;
 
 // Drops what a member of s that misses k or more of s is not adjacent to. Only the members that v is not adjacent to can have come to that.
@@ -73,7 +74,9 @@ pub fn sift(
 }
 
 // For how many vertices candidates are sifted once one more is taken.
-pub fn fewer(few: usize) -> usize {
+pub fn fewer(few: usize) -> usize
+    ensures { λ r. ⌜ r ≡ few - 1 ⌝ }
+{
     if few == 0 {
         return 0;
     }

@@ -170,6 +170,17 @@ fn long_lists_are_counted_exactly() {
 }
 
 #[test]
+fn long_lists_are_stored_in_order() {
+    for (rows, q) in [(instances::random(64, 0.8, 1), 1), (instances::mann_a9(), 11), (instances::multipartite(64, 16), 1)] {
+        let mut want = vec![];
+        cliques::run(&rows, q, &mut |t| want.push(t));
+        want.sort_unstable();
+        println!("{} cliques stored in order", want.len());
+        hold(&rows, 1, q, &want);
+    }
+}
+
+#[test]
 fn the_largest_slack() {
     // 64 vertices: at slack 32 the floor is 63 or 64
     let complete = instances::complete(64);
