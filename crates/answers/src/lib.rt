@@ -1,6 +1,4 @@
 // The whole of what the program answers: the bytes of a sheet in, the bytes to print out.
-ghost use Prim.Native.Nat.{_≤_};
-ghost use lib.ListN.{length};
 ghost use Rattle.sets.specs.Words.{masks};
 ghost use Rattle.answers.specs.Answer.{Answers, WritesList, Room};
 

@@ -1,5 +1,4 @@
 // The vertex to branch on. Any candidate is right; these choices are the fast ones.
-ghost use Prim.Native.Nat.{_<_};
 ghost use Rattle.sets.specs.Set.{In};
 ghost use Rattle.sets.specs.Words.{mask, masks};
 ghost use Rattle.search.specs.Choice.{Choosable, Among, Pickable};

@@ -1,7 +1,7 @@
 // Sets of vertices, and every operation on one. This is the only crate with bit arithmetic: the others
 // touch a set through these functions, and their contracts speak of its mask.
 ghost use mathlib.Core.Path.{_≡_};
-ghost use Prim.Native.Nat.{_-_, _^_, _<_, _≤_, min, max};
+ghost use Prim.Native.Nat.{_^_, _<_, _≤_, min, max};
 ghost use mathlib.Core.Bool.{cond};
 ghost use lib.Dec.{eqb, ltb};
 ghost use lib.Bits.{bitAnd, bitOr};
