@@ -1,4 +1,4 @@
--- Laws of the elements that pass a test: where two tests agree, how many pass, and the order of those of a range.
+-- Laws of the elements that pass a test: where two tests agree, sums over those that pass, and the order of those of a range.
 --
 --   Rising b xs   the first element is at least b, and each later one is above those before it
 use Prim.Native.Nat.{ℕ, zero, suc, _+_, _≤_}
@@ -10,8 +10,9 @@ use mathlib.Core.Bool.{Bool, true, false, _||_, cond}
 use mathlib.Core.List.{List, [], _∷_, List·Memᴰ·head, List·Memᴰ·tail, List·Memᴰ·cases-cons, List·Memᴰ·not-nil}
 use lib.Dec.{T}
 use lib.ListN.{length}
-use Rattle.sets.specs.Ranges.{from, keep}
+use Rattle.sets.specs.Ranges.{from, keep, total}
 use Rattle.sets.specs.RangeLaws.{Mem, true-holds}
+use Rattle.sets.specs.SumLaws.{where-so, total-ext, total-add, total-keep}
 
 -- ---- the elements that pass
 
@@ -40,19 +41,18 @@ keep-length p (x ∷ xs) = go (p x) (keep-length p xs)
     go true l = omega arith
     go false l = omega arith
 
--- where no element passes both, those that pass either are as many as both together
-pub keep-either : (p q : ℕ → Bool) (xs : List ℕ) → ((v : ℕ) → Mem v xs → T (p v) → T (q v) → ⊥)
-    → length (keep (λ v. p v || q v) xs) ≡ length (keep p xs) + length (keep q xs)
-unfolding keep
-keep-either p q [] h = refl
-keep-either p q (x ∷ xs) h = go (p x) (q x) (h x (List·Memᴰ·head refl)) (keep-either p q xs (λ v m. h v (List·Memᴰ·tail m)))
+-- where no element passes both, a sum over those that pass either is the sum over the one and over the other
+pub total-either : (f : ℕ → ℕ) (p q : ℕ → Bool) (xs : List ℕ) → ((v : ℕ) → Mem v xs → T (p v) → T (q v) → ⊥)
+    → total f (keep (λ v. p v || q v) xs) ≡ total f (keep p xs) + total f (keep q xs)
+total-either f p q xs h =
+    total-keep f (λ v. p v || q v) xs ∙ total-ext (where-so (λ v. p v || q v) f) (λ v. where-so p f v + where-so q f v) xs (λ v m. go (p v) (q v) (f v) (h v m))
+    ∙ total-add (where-so p f) (where-so q f) xs ∙ ap₂ (λ (a b : ℕ). a + b) (sym (total-keep f p xs)) (sym (total-keep f q xs))
   where
-    go : (a b : Bool) → (T a → T b → ⊥) → length (keep (λ v. p v || q v) xs) ≡ length (keep p xs) + length (keep q xs)
-        → length (cond (a || b) (x ∷ keep (λ v. p v || q v) xs) (keep (λ v. p v || q v) xs)) ≡ length (cond a (x ∷ keep p xs) (keep p xs)) + length (cond b (x ∷ keep q xs) (keep q xs))
-    go true true d e = absurd (d tt tt)
-    go true false d e = omega arith
-    go false true d e = omega arith
-    go false false d e = e
+    go : (a b : Bool) (n : ℕ) → (T a → T b → ⊥) → cond (a || b) n 0 ≡ cond a n 0 + cond b n 0
+    go true true n d = absurd (d tt tt)
+    go true false n d = omega arith
+    go false true n d = omega arith
+    go false false n d = refl
 
 -- ---- rising lists
 
@@ -73,33 +73,10 @@ keep-rising p i (suc m) = go (p i) (keep-rising p (suc i) m)
     go true r = (le-refl i, r)
     go false r = lower (suc i) i (keep p (from (suc i) m)) (omega arith) r
 
-pub above : (b v : ℕ) (xs : List ℕ) → Rising b xs → Mem v xs → b ≤ v
-above b v [] r m = absurd (List·Memᴰ·not-nil m)
-above b v (x ∷ xs) r m = go (List·Memᴰ·cases-cons m) (above (suc x) v xs (r .1))
+pub rising-above : (b v : ℕ) (xs : List ℕ) → Rising b xs → Mem v xs → b ≤ v
+rising-above b v [] r m = absurd (List·Memᴰ·not-nil m)
+rising-above b v (x ∷ xs) r m = go (List·Memᴰ·cases-cons m) (rising-above (suc x) v xs (r .1))
   where
     go : (v ≡ x) ⊎ Mem v xs → (Mem v xs → suc x ≤ v) → b ≤ v
     go (inl e) f = omega (arith, r .0)
     go (inr k) f = omega (arith, f k, r .0)
-
-same-head : (x y : ℕ) (xs ys : List ℕ) → Rising (suc x) xs → Rising (suc y) ys → (x ≡ y) ⊎ Mem x ys → (y ≡ x) ⊎ Mem y xs → x ≡ y
-same-head x y xs ys r s (inl e) q = e
-same-head x y xs ys r s (inr k) (inl e) = sym e
-same-head x y xs ys r s (inr k) (inr l) = absurd (omega (arith, above (suc y) x ys s k, above (suc x) y xs r l))
-
-same-tail : (x y : ℕ) (xs ys : List ℕ) → x ≡ y → Rising (suc x) xs → ((v : ℕ) → Mem v (x ∷ xs) → Mem v (y ∷ ys)) → (v : ℕ) → Mem v xs → Mem v ys
-same-tail x y xs ys e r f v m = go (List·Memᴰ·cases-cons (f v (List·Memᴰ·tail m)))
-  where
-    go : (v ≡ y) ⊎ Mem v ys → Mem v ys
-    go (inl q) = absurd (omega (arith, above (suc x) v xs r m))
-    go (inr k) = k
-
--- two rising lists with the same elements are equal
-pub rising-unique : (b c : ℕ) (xs ys : List ℕ) → Rising b xs → Rising c ys
-    → ((v : ℕ) → Mem v xs → Mem v ys) → ((v : ℕ) → Mem v ys → Mem v xs) → xs ≡ ys
-rising-unique b c [] [] r s f h = refl
-rising-unique b c [] (y ∷ ys) r s f h = absurd (List·Memᴰ·not-nil (h y (List·Memᴰ·head refl)))
-rising-unique b c (x ∷ xs) [] r s f h = absurd (List·Memᴰ·not-nil (f x (List·Memᴰ·head refl)))
-rising-unique b c (x ∷ xs) (y ∷ ys) r s f h =
-    let e = same-head x y xs ys (r .1) (s .1) (List·Memᴰ·cases-cons (f x (List·Memᴰ·head refl))) (List·Memᴰ·cases-cons (h y (List·Memᴰ·head refl))) in
-    ap₂ (λ (z : ℕ) (zs : List ℕ). z ∷ zs) e
-    (rising-unique (suc x) (suc y) xs ys (r .1) (s .1) (same-tail x y xs ys e (r .1) f) (same-tail y x ys xs (sym e) (s .1) h))

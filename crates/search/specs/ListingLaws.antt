@@ -13,10 +13,10 @@ use Rattle.sets.specs.RangeLaws.{Mem, mem-range, range-mem, keep-mem, mem-keep,
 use Rattle.judging.specs.Plex.{maximal}
 use Rattle.judging.specs.PlexLaws.{maximal-holds, maximal-test}
 use Rattle.search.specs.Order.{Shuffled, Sorts}
-use Rattle.search.specs.OrderLaws.{rising-ordered, ordered-unique}
+use Rattle.search.specs.OrderLaws.{rising-ordered, ordered-unique, rising-unique}
 use Rattle.search.specs.Placing.{passing, Adds}
 use Rattle.search.specs.Listing.{listed, listing, Listed}
-use Rattle.search.specs.KeepLaws.{keep-none, Rising, keep-rising, rising-unique}
+use Rattle.search.specs.KeepLaws.{keep-none, Rising, keep-rising}
 use Rattle.search.specs.PlacingLaws.{number-lt, adds-all}
 
 module _ (g : List ℕ) (k q : ℕ) where
@@ -86,8 +86,7 @@ module _ (g : List ℕ) (k q : ℕ) where
   -- so those slots, put in order, are the list
   pub listing-sorted : (first after part : List ℕ) (m : ℕ) → Adds (2 ^ length g) (listed g k q) first 0 after m → m ≤ length first → Sorts (take m after) part
       → part ++ drop m after ≡ listing g k q ++ drop m first
-  unfolding listing range
   listing-sorted first after part m s l h =
       let p = listing-placed first after m s .1 l in
       ap₂ (λ (t u : List ℕ). t ++ u)
-      (ordered-unique part (listing g k q) (h .ordered) (rising-ordered 0 (listing g k q) (keep-rising (listed g k q) 0 (2 ^ length g))) (λ z. h .same z ∙ p .0 z)) (p .1)
+      (ordered-unique part (listing g k q) (h .ordered) (rising-ordered 0 (listing g k q) listing-rising) (λ z. h .same z ∙ p .0 z)) (p .1)

@@ -10,9 +10,11 @@ use lib.Dec.{T, eqb, eqb→eq, eqb-refl}
 use lib.ListN.{length}
 use Rattle.sets.specs.Ranges.{from, range, keep}
 use Rattle.sets.specs.RangeLaws.{length-from, mem-range, range-mem, keep-mem, mem-keep, or-cases, or-left, or-right}
+use Rattle.sets.specs.SumLaws.{length-total}
 use Rattle.search.specs.Order.{times}
 use Rattle.search.specs.Placing.{passing, number, union, only, Apart, Holds, Adds}
-use Rattle.search.specs.KeepLaws.{keep-ext, keep-none, keep-length, keep-either, keep-rising, rising-unique}
+use Rattle.search.specs.KeepLaws.{keep-ext, keep-none, keep-length, keep-rising, total-either}
+use Rattle.search.specs.OrderLaws.{rising-unique}
 
 -- two tests that imply each other are equal
 pub same-test : (a b : Bool) → (T a → T b) → (T b → T a) → a ≡ b
@@ -63,7 +65,8 @@ module _ (N : ℕ) where
   number-only x l = ap length (passing-only x l)
 
   pub number-union : (P Q : ℕ → Bool) → Apart N P Q → number N (union P Q) ≡ number N P + number N Q
-  number-union P Q d = keep-either P Q (range N) (λ x m. d x (range-mem N x m))
+  number-union P Q d =
+      omega (arith, length-total (passing N (union P Q)), length-total (passing N P), length-total (passing N Q), total-either (λ x. 1) P Q (range N) (λ x m. d x (range-mem N x m)))
 
   -- ---- what slots hold
 
