@@ -76,15 +76,15 @@ kadvisk_outcome kadvisk_second_bound(const uint64_t *rows, size_t n, size_t slac
 kadvisk_outcome kadvisk_list(const uint64_t *rows, size_t n, size_t slack, size_t floor, uint64_t *slots, size_t room);
 
 /* The same list, by a search whose cuts are switched on or off; only the time differs. kadvisk_list has all on but second.
- *    core     start from the core instead of all vertices
- *    reach    beside a vertex that is taken keep only its two-hop reach
- *    pairs    beside a vertex that is taken keep only those with enough common neighbours
- *    second   skip a vertex whose second bound is below the floor
- *    parted   leave a branch whose partition bound is below the floor
- *    swallow  leave a branch to all of whose k-plexes one vertex can be added
- *    pivot    at slack 1 take only the vertices that a pivot is not adjacent to (of the others only core then counts) */
+ *    core       start from the core instead of all vertices
+ *    reach      beside a vertex that is taken keep only its two-hop reach
+ *    pairs      beside a vertex that is taken keep only those with enough common neighbours
+ *    second     skip a vertex whose second bound is below the floor
+ *    parted     leave a branch whose partition bound is below the floor
+ *    extension  leave a branch to all of whose k-plexes one vertex can be added
+ *    pivot      at slack 1 take only the vertices that a pivot is not adjacent to (of the others only core then counts) */
 kadvisk_outcome kadvisk_list_with(const uint64_t *rows, size_t n, size_t slack, size_t floor, bool core, bool reach, bool pairs, bool second, bool parted,
-                                  bool swallow, bool pivot, uint64_t *slots, size_t room);
+                                  bool extension, bool pivot, uint64_t *slots, size_t room);
 
 /* Reads a sheet: line 1 has n, k and q in two hexadecimal digits each, capitals for A to F, then each row has a line of 16, and every line ends in byte 10.
  * The first n of the rows become the graph, and the later ones keep what they held. Refusals, in this order: 8 at line 1, 1, 2, 3, 8, 4, 5, 9. */

@@ -11,7 +11,7 @@ pub enum Variant {
     SecondOn,
     SecondInstead,
     PartedOff,
-    SwallowOff,
+    ExtensionOff,
     PivotOff,
     Published,
     Cliques,
@@ -19,7 +19,7 @@ pub enum Variant {
 
 use Variant::*;
 
-pub const VARIANTS: [Variant; 11] = [All, CoreOff, PairsOff, ReachOff, SecondOn, SecondInstead, PartedOff, SwallowOff, PivotOff, Published, Cliques];
+pub const VARIANTS: [Variant; 11] = [All, CoreOff, PairsOff, ReachOff, SecondOn, SecondInstead, PartedOff, ExtensionOff, PivotOff, Published, Cliques];
 
 impl Variant {
     /// Its head in the table.
@@ -32,7 +32,7 @@ impl Variant {
             SecondOn => "second on",
             SecondInstead => "second instead",
             PartedOff => "partition off",
-            SwallowOff => "swallow off",
+            ExtensionOff => "extension off",
             PivotOff => "pivot off",
             Published => "fp",
             Cliques => "BK",
@@ -53,7 +53,7 @@ impl Variant {
             SecondOn => Cuts { second: true, ..all },
             SecondInstead => Cuts { second: true, parted: false, ..all },
             PartedOff => Cuts { parted: false, ..all },
-            SwallowOff => Cuts { swallow: false, ..all },
+            ExtensionOff => Cuts { extension: false, ..all },
             PivotOff => Cuts { pivot: false, ..all },
             _ => all,
         }

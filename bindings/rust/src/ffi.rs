@@ -39,7 +39,7 @@ extern "C" {
         pairs: bool,
         second: bool,
         parted: bool,
-        swallow: bool,
+        extension: bool,
         pivot: bool,
         slots: *mut u64,
         room: usize,

@@ -121,7 +121,7 @@ pub struct Cuts {
     /// Leave a branch whose partition bound is below the floor.
     pub parted: bool,
     /// Leave a branch to all of whose k-plexes one vertex can be added.
-    pub swallow: bool,
+    pub extension: bool,
     /// At slack 1 take only the vertices that a pivot is not adjacent to. Of the other cuts only `core` then counts.
     pub pivot: bool,
 }
@@ -129,7 +129,7 @@ pub struct Cuts {
 impl Default for Cuts {
     /// The setting of [`list`]: every cut but the second bound.
     fn default() -> Cuts {
-        Cuts { core: true, reach: true, pairs: true, second: false, parted: true, swallow: true, pivot: true }
+        Cuts { core: true, reach: true, pairs: true, second: false, parted: true, extension: true, pivot: true }
     }
 }
 
@@ -213,9 +213,9 @@ pub fn list(rows: &[u64], slack: usize, floor: usize, slots: &mut [u64]) -> Resu
 
 /// As [`list`], with each cut of the search switched on or off.
 pub fn list_with(rows: &[u64], slack: usize, floor: usize, cuts: Cuts, slots: &mut [u64]) -> Result<usize, Refusal> {
-    let Cuts { core, reach, pairs, second, parted, swallow, pivot } = cuts;
+    let Cuts { core, reach, pairs, second, parted, extension, pivot } = cuts;
     valued(unsafe {
-        ffi::kadvisk_list_with(rows.as_ptr(), rows.len(), slack, floor, core, reach, pairs, second, parted, swallow, pivot, slots.as_mut_ptr(), slots.len())
+        ffi::kadvisk_list_with(rows.as_ptr(), rows.len(), slack, floor, core, reach, pairs, second, parted, extension, pivot, slots.as_mut_ptr(), slots.len())
     })
 }
 

@@ -26,7 +26,7 @@ fn lists() {
     assert_eq!(kadvisk::count(&RING, 2, 3), Ok(5));
     assert_eq!(kadvisk::count(&RING, 2, 6), Ok(0));
     assert_eq!(kadvisk::list_all(&RING, 2, 3), Ok(LIST.to_vec()));
-    let off = Cuts { core: false, reach: false, pairs: false, second: false, parted: false, swallow: false, pivot: false };
+    let off = Cuts { core: false, reach: false, pairs: false, second: false, parted: false, extension: false, pivot: false };
     assert_eq!(kadvisk::list_with(&RING, 2, 3, off, &mut slots), Ok(5));
     assert_eq!(slots[..5], LIST);
     assert_eq!(kadvisk::list_with(&RING, 2, 3, Cuts::default(), &mut slots[..4]), Err(Refusal::Slots(5)));

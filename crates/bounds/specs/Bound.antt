@@ -5,9 +5,9 @@
 --   usable g k s c v        the neighbours of v in c that make a k-plex together with s
 --   ordered g k s c v       the same by rising cost, equal costs by rising number
 --   supports g k s          the supports of the members of s, added up
---   affordable g s b us     the most of us, from the first on, whose costs together are at most b
+--   packable g s b us       the most of us, from the first on, whose costs together are at most b
 --   firstBound g k s c v    the first bound (001, Lemma 5)
---   payer g s sp u          of the members of s that u is not adjacent to, the one with the least support, the lowest on a tie
+--   tightest g s sp u       of the members of s that u is not adjacent to, the one with the least support, the lowest on a tie
 --   kept g s sp b us        how many of us the second bound keeps, from the supports sp and the running total b on
 --   secondBound g k s c v   the second bound (001, Algorithm 1)
 --   largest g k s c v       the size of the largest k-plex that holds s and v and has no vertex outside s and c
@@ -36,12 +36,12 @@ ordered g k s c v = joined (λ d. keep (λ u. eqb (missing g s u) d) (usable g k
 unfoldable pub supports : List ℕ → ℕ → ℕ → ℕ
 supports g k s = total (support g k s) (members (length g) s)
 
-unfoldable pub affordable : List ℕ → ℕ → ℕ → List ℕ → ℕ
-affordable g s b [] = 0
-affordable g s b (u ∷ us) = cond (leb (missing g s u) b) (suc (affordable g s (b - missing g s u) us)) 0
+unfoldable pub packable : List ℕ → ℕ → ℕ → List ℕ → ℕ
+packable g s b [] = 0
+packable g s b (u ∷ us) = cond (leb (missing g s u) b) (suc (packable g s (b - missing g s u) us)) 0
 
 unfoldable pub firstBound : List ℕ → ℕ → ℕ → ℕ → ℕ → ℕ
-firstBound g k s c v = size s + k - missing g s v + affordable g s (supports g k s) (ordered g k s c v)
+firstBound g k s c v = size s + k - missing g s v + packable g s (supports g k s) (ordered g k s c v)
 
 -- of two vertices the one with the lower support, the first on a tie
 unfoldable pub lesser : List ℕ → ℕ → ℕ → ℕ
@@ -52,17 +52,17 @@ unfoldable pub least : List ℕ → ℕ → List ℕ → ℕ
 least sp d [] = d
 least sp d (x ∷ xs) = lesser sp x (least sp x xs)
 
-unfoldable pub payer : List ℕ → ℕ → List ℕ → ℕ → ℕ
-payer g s sp u = least sp 0 (keep (λ w. not (adjacent g u w)) (members (length g) s))
+unfoldable pub tightest : List ℕ → ℕ → List ℕ → ℕ → ℕ
+tightest g s sp u = least sp 0 (keep (λ w. not (adjacent g u w)) (members (length g) s))
 
 unfoldable pub kept : List ℕ → ℕ → List ℕ → ℕ → List ℕ → ℕ
 kept g s sp b [] = 0
 kept g s sp b (u ∷ us) =
-    let w = payer g s sp u in
-    let paid = suc (kept g s (set sp w (getD sp w 0 - 1)) (b - missing g s u) us) in
+    let w = tightest g s sp u in
+    let charged = suc (kept g s (set sp w (getD sp w 0 - 1)) (b - missing g s u) us) in
     let free = suc (kept g s sp b us) in
     let skipped = kept g s sp b us in
-    cond (ltb b (missing g s u)) skipped (cond (eqb (missing g s u) 0) free (cond (ltb 0 (getD sp w 0)) paid skipped))
+    cond (ltb b (missing g s u)) skipped (cond (eqb (missing g s u) 0) free (cond (ltb 0 (getD sp w 0)) charged skipped))
 
 unfoldable pub secondBound : List ℕ → ℕ → ℕ → ℕ → ℕ → ℕ
 secondBound g k s c v =

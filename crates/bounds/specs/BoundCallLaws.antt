@@ -98,7 +98,7 @@ module _ (g : List ℕ) (k s c v : ℕ) where
   unfolding boundCheck boundCause misplaced overlap
   bound-checked e =
       record {
-        payable =
+        supported =
             record {
               inside = record { some = sized .some; most = sized .most; below = set-below g s (passed-head (setCause g s) causes tail) };
               slack = slack-accepted g k slack .1;

@@ -1,4 +1,4 @@
--- Laws of the bounds: the greedy rule of the second keeps at least as many neighbours as any choice that every member can pay for (by an exchange), and at most as many as the first affords.
+-- Laws of the bounds: the greedy rule of the second keeps at least as many neighbours as any choice that every member has the support for (by an exchange), and at most as many as the first packs.
 use Prim.Native.Nat.{ℕ, zero, suc, _+_, _-_, _^_, _≤_, _<_, zero-le}
 use native.Mathlib.Nat.{not-suc-le-zero}
 use native.Mathlib.Omega.{arith}
@@ -15,7 +15,7 @@ use Rattle.sets.specs.Ranges.{from, range, keep, total, joined}
 use Rattle.sets.specs.Set.{bit, has, In, size, minus, members}
 use Rattle.sets.specs.Graph.{row}
 use Rattle.judging.specs.Graph.{adjacent, missing}
-use Rattle.bounds.specs.Bound.{support, usable, ordered, supports, affordable, firstBound, lesser, least, payer, kept, secondBound}
+use Rattle.bounds.specs.Bound.{support, usable, ordered, supports, packable, firstBound, lesser, least, tightest, kept, secondBound}
 use Rattle.sets.specs.RangeLaws.{Mem, mem-range, range-mem, keep-mem, mem-keep, from-mem}
 use Rattle.sets.specs.SumLaws.{joined-mem}
 use Rattle.sets.specs.BitLaws.{bit-le, bit-minus}
@@ -70,7 +70,7 @@ total-witness f (x ∷ xs) h = go (decLt 0 (f x)) (total-witness f xs)
     go (yes k) r = (x, List·Memᴰ·head refl, k)
     go (no nk) r = let z = r (omega arith) in (z .0, List·Memᴰ·tail (z .1), z .2)
 
--- ---- the member that pays
+-- ---- the member with the least support
 
 lesser-mem : (sp : List ℕ) (a b : ℕ) (xs : List ℕ) → Mem a xs → Mem b xs → Mem (lesser sp a b) xs
 unfolding lesser
@@ -95,8 +95,8 @@ least-mem′ sp d x (y ∷ ys) m = lesser-mem sp y (least sp y ys) (y ∷ ys) (L
 unfoldable pub apart : List ℕ → ℕ → ℕ → ℕ
 apart g w u = 1 - bit (row g u) w
 
--- the payer is a member of s that u is not adjacent to
-pub record Pays (g : List ℕ) (s w u : ℕ) : Type 0 where
+-- the tightest is a member of s that u is not adjacent to
+pub record NonNeighbour (g : List ℕ) (s w u : ℕ) : Type 0 where
   pub below : w < length g
   pub member : In w s
   pub apart : apart g w u ≡ 1
@@ -108,21 +108,21 @@ sub-none : (b x : ℕ) → x ≡ 0 → b - x ≡ b
 sub-none b x e = omega arith
 
 module _ (g : List ℕ) (s : ℕ) (low : s < 2 ^ length g) where
-  pub payer-pays : (sp : List ℕ) (u : ℕ) → 0 < missing g s u → Pays g s (payer g s sp u) u
-  unfolding missing payer members adjacent apart
-  payer-pays sp u h =
+  pub tightest-apart : (sp : List ℕ) (u : ℕ) → 0 < missing g s u → NonNeighbour g s (tightest g s sp u) u
+  unfolding missing tightest members adjacent apart
+  tightest-apart sp u h =
       let x = some-member (minus s (row g u)) h in
       let ex : In (x .0) s = omega (arith, x .1, bit-minus s (row g u) (x .0), bit-le s (x .0)) in
       let m = mem-keep (λ (w : ℕ). not (has (row g u) w)) (keep (has s) (range (length g))) (x .0)
       (mem-keep (has s) (range (length g)) (x .0) (mem-range (length g) (x .0) (in-below (length g) s (x .0) low ex)) (in-has s (x .0) ex))
       (not-T (has (row g u) (x .0)) (λ t. omega (arith, x .1, bit-minus s (row g u) (x .0), has-in (row g u) (x .0) t, ex))) in
-      let k = keep-mem (λ (w : ℕ). not (has (row g u) w)) (keep (has s) (range (length g))) (payer g s sp u)
+      let k = keep-mem (λ (w : ℕ). not (has (row g u) w)) (keep (has s) (range (length g))) (tightest g s sp u)
       (least-mem′ sp 0 (x .0) (keep (λ (w : ℕ). not (has (row g u) w)) (keep (has s) (range (length g)))) m) in
-      let i = keep-mem (has s) (range (length g)) (payer g s sp u) (k .0) in
+      let i = keep-mem (has s) (range (length g)) (tightest g s sp u) (k .0) in
       record {
-        below = range-mem (length g) (payer g s sp u) (i .0);
-        member = has-in s (payer g s sp u) (i .1);
-        apart = no-edge (payer g s sp u) (k .1);
+        below = range-mem (length g) (tightest g s sp u) (i .0);
+        member = has-in s (tightest g s sp u) (i .1);
+        apart = no-edge (tightest g s sp u) (k .1);
       }
     where
       no-edge : (w : ℕ) → T (not (has (row g u) w)) → 1 - bit (row g u) w ≡ 1
@@ -134,29 +134,29 @@ module _ (g : List ℕ) (s : ℕ) (low : s < 2 ^ length g) where
 
   -- ---- the rules, as equations
 
-  -- the supports once the payer of u has paid
+  -- the supports once that of the tightest for u is one less
   unfoldable pub after : List ℕ → ℕ → List ℕ
-  after sp u = set sp (payer g s sp u) (getD sp (payer g s sp u) 0 - 1)
+  after sp u = set sp (tightest g s sp u) (getD sp (tightest g s sp u) 0 - 1)
 
-  pub kept-dear : (sp : List ℕ) (b u : ℕ) (us : List ℕ) → b < missing g s u → kept g s sp b (u ∷ us) ≡ kept g s sp b us
+  pub kept-costly : (sp : List ℕ) (b u : ℕ) (us : List ℕ) → b < missing g s u → kept g s sp b (u ∷ us) ≡ kept g s sp b us
   unfolding kept
-  kept-dear sp b u us h = simp (lt-ltb b (missing g s u) h)
+  kept-costly sp b u us h = simp (lt-ltb b (missing g s u) h)
 
   pub kept-free : (sp : List ℕ) (b u : ℕ) (us : List ℕ) → missing g s u ≡ 0 → kept g s sp b (u ∷ us) ≡ suc (kept g s sp b us)
   unfolding kept
   kept-free sp b u us e = simp (le-ltb b (missing g s u) (omega arith), eq-eqb (missing g s u) 0 e)
 
-  pub kept-paid : (sp : List ℕ) (b u : ℕ) (us : List ℕ) → missing g s u ≤ b → 0 < missing g s u → 0 < getD sp (payer g s sp u) 0
+  pub kept-charged : (sp : List ℕ) (b u : ℕ) (us : List ℕ) → missing g s u ≤ b → 0 < missing g s u → 0 < getD sp (tightest g s sp u) 0
       → kept g s sp b (u ∷ us) ≡ suc (kept g s (after sp u) (b - missing g s u) us)
   unfolding kept after
-  kept-paid sp b u us l p q =
-      simp (le-ltb b (missing g s u) l, ne-eqb (missing g s u) 0 (λ e. omega (arith, e)), lt-ltb 0 (getD sp (payer g s sp u) 0) q)
+  kept-charged sp b u us l p q =
+      simp (le-ltb b (missing g s u) l, ne-eqb (missing g s u) 0 (λ e. omega (arith, e)), lt-ltb 0 (getD sp (tightest g s sp u) 0) q)
 
-  pub kept-broke : (sp : List ℕ) (b u : ℕ) (us : List ℕ) → missing g s u ≤ b → 0 < missing g s u → getD sp (payer g s sp u) 0 ≡ 0
+  pub kept-spent : (sp : List ℕ) (b u : ℕ) (us : List ℕ) → missing g s u ≤ b → 0 < missing g s u → getD sp (tightest g s sp u) 0 ≡ 0
       → kept g s sp b (u ∷ us) ≡ kept g s sp b us
   unfolding kept
-  kept-broke sp b u us l p q =
-      simp (le-ltb b (missing g s u) l, ne-eqb (missing g s u) 0 (λ e. omega (arith, e)), le-ltb 0 (getD sp (payer g s sp u) 0) (omega arith))
+  kept-spent sp b u us l p q =
+      simp (le-ltb b (missing g s u) l, ne-eqb (missing g s u) 0 (λ e. omega (arith, e)), le-ltb 0 (getD sp (tightest g s sp u) 0) (omega arith))
 
   -- ---- feasible choices
 
@@ -172,51 +172,51 @@ module _ (g : List ℕ) (s : ℕ) (low : s < 2 ^ length g) where
   part-cases (skip p) = inl p
   part-cases (take {ds = es} p) = inr (es, refl, p)
 
-  -- what is left after the payer of u paid, at each member
-  after-payer : (sp : List ℕ) (u : ℕ) → length sp ≡ length g → Pays g s (payer g s sp u) u
-      → suc (getD (after sp u) (payer g s sp u) 0) ≡ suc (getD sp (payer g s sp u) 0 - 1)
+  -- what is left at each member after that
+  after-tightest : (sp : List ℕ) (u : ℕ) → length sp ≡ length g → NonNeighbour g s (tightest g s sp u) u
+      → suc (getD (after sp u) (tightest g s sp u) 0) ≡ suc (getD sp (tightest g s sp u) 0 - 1)
   unfolding after
-  after-payer sp u e p = ap suc (getD-set-same sp (payer g s sp u) (getD sp (payer g s sp u) 0 - 1) 0 (omega (arith, p .below)))
+  after-tightest sp u e p = ap suc (getD-set-same sp (tightest g s sp u) (getD sp (tightest g s sp u) 0 - 1) 0 (omega (arith, p .below)))
 
-  after-other : (sp : List ℕ) (u w : ℕ) → w ≢ payer g s sp u → getD (after sp u) w 0 ≡ getD sp w 0
+  after-other : (sp : List ℕ) (u w : ℕ) → w ≢ tightest g s sp u → getD (after sp u) w 0 ≡ getD sp w 0
   unfolding after
-  after-other sp u w ne = getD-set-other sp (payer g s sp u) w (getD sp (payer g s sp u) 0 - 1) 0 ne
+  after-other sp u w ne = getD-set-other sp (tightest g s sp u) w (getD sp (tightest g s sp u) 0 - 1) 0 ne
 
-  -- u is in the choice: what is left of the choice is feasible once u is paid
-  feasible-taken : (sp : List ℕ) (b u : ℕ) (es : List ℕ) → length sp ≡ length g → Pays g s (payer g s sp u) u
+  -- u is in the choice: what is left of the choice is feasible for what is left of the supports
+  feasible-taken : (sp : List ℕ) (b u : ℕ) (es : List ℕ) → length sp ≡ length g → NonNeighbour g s (tightest g s sp u) u
       → Feasible sp b (u ∷ es) → Feasible (after sp u) (b - missing g s u) es
   unfolding total
-  feasible-taken sp b u es e p f = (λ w l m. go w l m (ℕ-discrete w (payer g s sp u)), omega (arith, f .1))
+  feasible-taken sp b u es e p f = (λ w l m. go w l m (ℕ-discrete w (tightest g s sp u)), omega (arith, f .1))
     where
-      go : (w : ℕ) → w < length g → In w s → Dec (w ≡ payer g s sp u) → total (apart g w) es ≤ getD (after sp u) w 0
+      go : (w : ℕ) → w < length g → In w s → Dec (w ≡ tightest g s sp u) → total (apart g w) es ≤ getD (after sp u) w 0
       go w l m (yes q) =
           subst (λ (x : ℕ). total (apart g x) es ≤ getD (after sp u) x 0) (sym q)
-          (omega (arith, f .0 (payer g s sp u) (p .below) (p .member), p .apart, after-payer sp u e p))
+          (omega (arith, f .0 (tightest g s sp u) (p .below) (p .member), p .apart, after-tightest sp u e p))
       go w l m (no nq) = omega (arith, f .0 w l m, after-other sp u w nq)
 
   -- u is not in the choice: one of its elements makes room for u
-  exchange : (sp : List ℕ) (b u : ℕ) (ds : List ℕ) → length sp ≡ length g → Pays g s (payer g s sp u) u → 0 < getD sp (payer g s sp u) 0
+  exchange : (sp : List ℕ) (b u : ℕ) (ds : List ℕ) → length sp ≡ length g → NonNeighbour g s (tightest g s sp u) u → 0 < getD sp (tightest g s sp u) 0
       → ((v : ℕ) → Mem v ds → missing g s u ≤ missing g s v) → 0 < length ds → Feasible sp b ds
       → (x : ℕ) × (r : Less x ds) × Feasible (after sp u) (b - missing g s u) (r .rest)
-  exchange sp b u ds e p q dear h f = go (decLt 0 (total (apart g (payer g s sp u)) ds))
+  exchange sp b u ds e p q costly h f = go (decLt 0 (total (apart g (tightest g s sp u)) ds))
     where
-      fits : (x : ℕ) → Mem x ds → (r : Less x ds) → total (apart g (payer g s sp u)) (r .rest) ≤ getD sp (payer g s sp u) 0 - 1
+      fits : (x : ℕ) → Mem x ds → (r : Less x ds) → total (apart g (tightest g s sp u)) (r .rest) ≤ getD sp (tightest g s sp u) 0 - 1
           → Feasible (after sp u) (b - missing g s u) (r .rest)
-      fits x m r k = (λ w l i. each w l i (ℕ-discrete w (payer g s sp u)), omega (arith, f .1, r .sums (missing g s), dear x m))
+      fits x m r k = (λ w l i. each w l i (ℕ-discrete w (tightest g s sp u)), omega (arith, f .1, r .sums (missing g s), costly x m))
         where
-          each : (w : ℕ) → w < length g → In w s → Dec (w ≡ payer g s sp u) → total (apart g w) (r .rest) ≤ getD (after sp u) w 0
+          each : (w : ℕ) → w < length g → In w s → Dec (w ≡ tightest g s sp u) → total (apart g w) (r .rest) ≤ getD (after sp u) w 0
           each w l i (yes z) =
-              subst (λ (y : ℕ). total (apart g y) (r .rest) ≤ getD (after sp u) y 0) (sym z) (omega (arith, k, after-payer sp u e p))
+              subst (λ (y : ℕ). total (apart g y) (r .rest) ≤ getD (after sp u) y 0) (sym z) (omega (arith, k, after-tightest sp u e p))
           each w l i (no nz) = omega (arith, f .0 w l i, r .sums (apart g w), after-other sp u w nz)
 
-      go : Dec (0 < total (apart g (payer g s sp u)) ds) → (x : ℕ) × (r : Less x ds) × Feasible (after sp u) (b - missing g s u) (r .rest)
+      go : Dec (0 < total (apart g (tightest g s sp u)) ds) → (x : ℕ) × (r : Less x ds) × Feasible (after sp u) (b - missing g s u) (r .rest)
       go (yes k) =
-          let x = total-witness (apart g (payer g s sp u)) ds k in
+          let x = total-witness (apart g (tightest g s sp u)) ds k in
           let r = less (x .1) in (
             x .0,
             r,
             fits (x .0) (x .1) r
-                (omega (arith, f .0 (payer g s sp u) (p .below) (p .member), r .sums (apart g (payer g s sp u)), x .2)),
+                (omega (arith, f .0 (tightest g s sp u) (p .below) (p .member), r .sums (apart g (tightest g s sp u)), x .2)),
           )
       go (no nk) = one ds refl
         where
@@ -225,11 +225,11 @@ module _ (g : List ℕ) (s : ℕ) (low : s < 2 ^ length g) where
           one (x ∷ xs) z =
               let m = subst (λ (l : List ℕ). Mem x l) (sym z) (List·Memᴰ·head refl) in
               let r = less m in
-              (x, r, fits x m r (omega (arith, r .sums (apart g (payer g s sp u)))))
+              (x, r, fits x m r (omega (arith, r .sums (apart g (tightest g s sp u)))))
 
   pub after-length : (sp : List ℕ) (u : ℕ) → length (after sp u) ≡ length sp
   unfolding after
-  after-length sp u = length-set sp (payer g s sp u) (getD sp (payer g s sp u) 0 - 1)
+  after-length sp u = length-set sp (tightest g s sp u) (getD sp (tightest g s sp u) 0 - 1)
 
   part-nil : {ds : List ℕ} → Part ds [] → length ds ≡ 0
   part-nil none = refl
@@ -239,9 +239,9 @@ module _ (g : List ℕ) (s : ℕ) (low : s < 2 ^ length g) where
   unfolding total
   taken-cost sp b u es f = omega (arith, f .1)
 
-  taken-payer : (sp : List ℕ) (b u : ℕ) (es : List ℕ) → Pays g s (payer g s sp u) u → Feasible sp b (u ∷ es) → 0 < getD sp (payer g s sp u) 0
+  taken-tightest : (sp : List ℕ) (b u : ℕ) (es : List ℕ) → NonNeighbour g s (tightest g s sp u) u → Feasible sp b (u ∷ es) → 0 < getD sp (tightest g s sp u) 0
   unfolding total
-  taken-payer sp b u es p f = omega (arith, f .0 (payer g s sp u) (p .below) (p .member), p .apart)
+  taken-tightest sp b u es p f = omega (arith, f .0 (tightest g s sp u) (p .below) (p .member), p .apart)
 
   taken-rest : (sp : List ℕ) (b u : ℕ) (es : List ℕ) → Feasible sp b (u ∷ es) → Feasible sp b es
   unfolding total
@@ -251,12 +251,12 @@ module _ (g : List ℕ) (s : ℕ) (low : s < 2 ^ length g) where
       → length ds ≤ kept g s sp b us
   kept-sound [] sp b ds e o p f = omega (arith, part-nil p)
   kept-sound (u ∷ us) sp b ds e o p f =
-      go (kept-sound us) (decLt b (missing g s u)) (ℕ-discrete (missing g s u) 0) (decLt 0 (getD sp (payer g s sp u) 0)) (part-cases p)
+      go (kept-sound us) (decLt b (missing g s u)) (ℕ-discrete (missing g s u) 0) (decLt 0 (getD sp (tightest g s sp u) 0)) (part-cases p)
     where
       go : ((sp : List ℕ) (b : ℕ) (ds : List ℕ) → length sp ≡ length g → Sorted us → Part ds us → Feasible sp b ds → length ds ≤ kept g s sp b us)
-          → Dec (b < missing g s u) → Dec (missing g s u ≡ 0) → Dec (0 < getD sp (payer g s sp u) 0)
+          → Dec (b < missing g s u) → Dec (missing g s u ≡ 0) → Dec (0 < getD sp (tightest g s sp u) 0)
           → Part ds us ⊎ ((es : List ℕ) × (ds ≡ u ∷ es) × Part es us) → length ds ≤ kept g s sp b (u ∷ us)
-      go ih (yes d) z q (inl r) = omega (arith, kept-dear sp b u us d, ih sp b ds e (o .1) r f)
+      go ih (yes d) z q (inl r) = omega (arith, kept-costly sp b u us d, ih sp b ds e (o .1) r f)
       go ih (yes d) z q (inr r) = absurd (omega (arith, taken-cost sp b u (r .0) (subst (Feasible sp b) (r .1) f)))
       go ih (no nd) (yes z) q (inl r) = omega (arith, kept-free sp b u us z, ih sp b ds e (o .1) r f)
       go ih (no nd) (yes z) q (inr r) =
@@ -266,24 +266,24 @@ module _ (g : List ℕ) (s : ℕ) (low : s < 2 ^ length g) where
           swap : Dec (0 < length ds) → length ds ≤ kept g s sp b (u ∷ us)
           swap (no n0) = omega arith
           swap (yes h) =
-              let x = exchange sp b u ds e (payer-pays sp u (omega arith)) q (λ v m. o .0 v (part-mem v r m)) h f in
+              let x = exchange sp b u ds e (tightest-apart sp u (omega arith)) q (λ v m. o .0 v (part-mem v r m)) h f in
               omega (
                 arith,
-                kept-paid sp b u us (omega arith) (omega arith) q,
+                kept-charged sp b u us (omega arith) (omega arith) q,
                 x .1 .len,
                 ih (after sp u) (b - missing g s u) (x .1 .rest) (after-length sp u ∙ e) (o .1) (part-trans (x .1 .part) r) (x .2),
               )
       go ih (no nd) (no nz) (yes q) (inr r) =
           omega (
             arith,
-            kept-paid sp b u us (omega arith) (omega arith) q,
+            kept-charged sp b u us (omega arith) (omega arith) q,
             ap length (r .1),
             ih (after sp u) (b - missing g s u) (r .0) (after-length sp u ∙ e) (o .1) (r .2)
-                (feasible-taken sp b u (r .0) e (payer-pays sp u (omega arith)) (subst (Feasible sp b) (r .1) f)),
+                (feasible-taken sp b u (r .0) e (tightest-apart sp u (omega arith)) (subst (Feasible sp b) (r .1) f)),
           )
-      go ih (no nd) (no nz) (no nq) (inl r) = omega (arith, kept-broke sp b u us (omega arith) (omega arith) (omega arith), ih sp b ds e (o .1) r f)
+      go ih (no nd) (no nz) (no nq) (inl r) = omega (arith, kept-spent sp b u us (omega arith) (omega arith) (omega arith), ih sp b ds e (o .1) r f)
       go ih (no nd) (no nz) (no nq) (inr r) =
-          absurd (omega (arith, taken-payer sp b u (r .0) (payer-pays sp u (omega arith)) (subst (Feasible sp b) (r .1) f)))
+          absurd (omega (arith, taken-tightest sp b u (r .0) (tightest-apart sp u (omega arith)) (subst (Feasible sp b) (r .1) f)))
 
   -- ---- the order of the neighbours
 
@@ -322,73 +322,73 @@ module _ (g : List ℕ) (s : ℕ) (low : s < 2 ^ length g) where
 
   -- ---- the second bound never exceeds the first
 
-  -- a list that is too dear from its first element on
-  abbrev pub Dear : ℕ → List ℕ → Type 0
-  Dear b us = (v : ℕ) → Mem v us → b < missing g s v
+  -- a list that is too costly from its first element on
+  abbrev pub Costly : ℕ → List ℕ → Type 0
+  Costly b us = (v : ℕ) → Mem v us → b < missing g s v
 
-  pub kept-none : (us sp : List ℕ) (b : ℕ) → Dear b us → kept g s sp b us ≡ 0
+  pub kept-none : (us sp : List ℕ) (b : ℕ) → Costly b us → kept g s sp b us ≡ 0
   unfolding kept
   kept-none [] sp b h = refl
   kept-none (u ∷ us) sp b h =
-      kept-dear sp b u us (h u (List·Memᴰ·head refl)) ∙ kept-none us sp b (λ v m. h v (List·Memᴰ·tail m))
+      kept-costly sp b u us (h u (List·Memᴰ·head refl)) ∙ kept-none us sp b (λ v m. h v (List·Memᴰ·tail m))
 
-  pub afford-none : (us : List ℕ) (b : ℕ) → Dear b us → affordable g s b us ≡ 0
-  unfolding affordable
-  afford-none [] b h = refl
-  afford-none (u ∷ us) b h = simp (lt-leb (missing g s u) b (h u (List·Memᴰ·head refl)))
+  pub pack-none : (us : List ℕ) (b : ℕ) → Costly b us → packable g s b us ≡ 0
+  unfolding packable
+  pack-none [] b h = refl
+  pack-none (u ∷ us) b h = simp (lt-leb (missing g s u) b (h u (List·Memᴰ·head refl)))
 
-  pub afford-some : (u : ℕ) (us : List ℕ) (b : ℕ) → missing g s u ≤ b → affordable g s b (u ∷ us) ≡ suc (affordable g s (b - missing g s u) us)
-  unfolding affordable
-  afford-some u us b h = simp (le-leb (missing g s u) b h)
+  pub pack-some : (u : ℕ) (us : List ℕ) (b : ℕ) → missing g s u ≤ b → packable g s b (u ∷ us) ≡ suc (packable g s (b - missing g s u) us)
+  unfolding packable
+  pack-some u us b h = simp (le-leb (missing g s u) b h)
 
   -- a budget less by no more than each cost loses one neighbour at the most
-  afford-less : (us : List ℕ) (b d : ℕ) → Sorted us → ((v : ℕ) → Mem v us → d ≤ missing g s v) → d ≤ b
-      → affordable g s b us ≤ suc (affordable g s (b - d) us)
-  unfolding affordable
-  afford-less [] b d o h l = zero-le
-  afford-less (u ∷ us) b d o h l = go (afford-less us) (decLe (missing g s u) (b - d)) (decLe (missing g s u) b)
+  pack-less : (us : List ℕ) (b d : ℕ) → Sorted us → ((v : ℕ) → Mem v us → d ≤ missing g s v) → d ≤ b
+      → packable g s b us ≤ suc (packable g s (b - d) us)
+  unfolding packable
+  pack-less [] b d o h l = zero-le
+  pack-less (u ∷ us) b d o h l = go (pack-less us) (decLe (missing g s u) (b - d)) (decLe (missing g s u) b)
     where
-      go : ((b d : ℕ) → Sorted us → ((v : ℕ) → Mem v us → d ≤ missing g s v) → d ≤ b → affordable g s b us ≤ suc (affordable g s (b - d) us))
-          → Dec (missing g s u ≤ b - d) → Dec (missing g s u ≤ b) → affordable g s b (u ∷ us) ≤ suc (affordable g s (b - d) (u ∷ us))
+      go : ((b d : ℕ) → Sorted us → ((v : ℕ) → Mem v us → d ≤ missing g s v) → d ≤ b → packable g s b us ≤ suc (packable g s (b - d) us))
+          → Dec (missing g s u ≤ b - d) → Dec (missing g s u ≤ b) → packable g s b (u ∷ us) ≤ suc (packable g s (b - d) (u ∷ us))
       go ih (yes p) q =
           omega (
             arith,
-            afford-some u us b (omega arith),
-            afford-some u us (b - d) p,
+            pack-some u us b (omega arith),
+            pack-some u us (b - d) p,
             ih (b - missing g s u) d (o .1) (λ v m. h v (List·Memᴰ·tail m)) (omega arith),
-            ap (λ (x : ℕ). affordable g s x us) (swap-sub b d (missing g s u)),
+            ap (λ (x : ℕ). packable g s x us) (swap-sub b d (missing g s u)),
           )
       go ih (no np) (no nq) =
-          omega (arith, afford-none (u ∷ us) b (λ v m. first-dear v (List·Memᴰ·cases-cons m)))
+          omega (arith, pack-none (u ∷ us) b (λ v m. first-costly v (List·Memᴰ·cases-cons m)))
         where
-          first-dear : (v : ℕ) → (v ≡ u) ⊎ Mem v us → b < missing g s v
-          first-dear v (inl e) = omega (arith, ap (missing g s) e)
-          first-dear v (inr m) = omega (arith, o .0 v m)
+          first-costly : (v : ℕ) → (v ≡ u) ⊎ Mem v us → b < missing g s v
+          first-costly v (inl e) = omega (arith, ap (missing g s) e)
+          first-costly v (inr m) = omega (arith, o .0 v m)
       go ih (no np) (yes q) =
-          omega (arith, afford-some u us b q, afford-none us (b - missing g s u) (λ v m. omega (arith, h v (List·Memᴰ·tail m), o .0 v m, h u (List·Memᴰ·head refl))))
+          omega (arith, pack-some u us b q, pack-none us (b - missing g s u) (λ v m. omega (arith, h v (List·Memᴰ·tail m), o .0 v m, h u (List·Memᴰ·head refl))))
 
-  pub kept-afford : (us sp : List ℕ) (b : ℕ) → Sorted us → kept g s sp b us ≤ affordable g s b us
-  unfolding kept affordable
-  kept-afford [] sp b o = zero-le
-  kept-afford (u ∷ us) sp b o =
-      go (kept-afford us) (decLt b (missing g s u)) (ℕ-discrete (missing g s u) 0) (decLt 0 (getD sp (payer g s sp u) 0))
+  pub kept-pack : (us sp : List ℕ) (b : ℕ) → Sorted us → kept g s sp b us ≤ packable g s b us
+  unfolding kept packable
+  kept-pack [] sp b o = zero-le
+  kept-pack (u ∷ us) sp b o =
+      go (kept-pack us) (decLt b (missing g s u)) (ℕ-discrete (missing g s u) 0) (decLt 0 (getD sp (tightest g s sp u) 0))
     where
-      go : ((sp : List ℕ) (b : ℕ) → Sorted us → kept g s sp b us ≤ affordable g s b us)
-          → Dec (b < missing g s u) → Dec (missing g s u ≡ 0) → Dec (0 < getD sp (payer g s sp u) 0) → kept g s sp b (u ∷ us) ≤ affordable g s b (u ∷ us)
-      go ih (yes d) z q = omega (arith, kept-dear sp b u us d, kept-none us sp b (λ v m. omega (arith, o .0 v m)))
+      go : ((sp : List ℕ) (b : ℕ) → Sorted us → kept g s sp b us ≤ packable g s b us)
+          → Dec (b < missing g s u) → Dec (missing g s u ≡ 0) → Dec (0 < getD sp (tightest g s sp u) 0) → kept g s sp b (u ∷ us) ≤ packable g s b (u ∷ us)
+      go ih (yes d) z q = omega (arith, kept-costly sp b u us d, kept-none us sp b (λ v m. omega (arith, o .0 v m)))
       go ih (no nd) (yes z) q =
-          omega (arith, kept-free sp b u us z, afford-some u us b (omega arith), ih sp b (o .1), ap (λ (x : ℕ). affordable g s x us) (sub-none b (missing g s u) z))
+          omega (arith, kept-free sp b u us z, pack-some u us b (omega arith), ih sp b (o .1), ap (λ (x : ℕ). packable g s x us) (sub-none b (missing g s u) z))
       go ih (no nd) (no nz) (yes q) =
-          omega (arith, kept-paid sp b u us (omega arith) (omega arith) q, afford-some u us b (omega arith), ih (after sp u) (b - missing g s u) (o .1))
+          omega (arith, kept-charged sp b u us (omega arith) (omega arith) q, pack-some u us b (omega arith), ih (after sp u) (b - missing g s u) (o .1))
       go ih (no nd) (no nz) (no nq) =
           omega (
             arith,
-            kept-broke sp b u us (omega arith) (omega arith) (omega arith),
-            afford-some u us b (omega arith),
+            kept-spent sp b u us (omega arith) (omega arith) (omega arith),
+            pack-some u us b (omega arith),
             ih sp b (o .1),
-            afford-less us b (missing g s u) (o .1) (o .0) (omega arith),
+            pack-less us b (missing g s u) (o .1) (o .0) (omega arith),
           )
 
   pub second-first : (k c v : ℕ) → secondBound g k s c v ≤ firstBound g k s c v
   unfolding secondBound firstBound
-  second-first k c v = omega (arith, kept-afford (ordered g k s c v) (map (support g k s) (range (length g))) (supports g k s) (ordered-sorted k c v))
+  second-first k c v = omega (arith, kept-pack (ordered g k s c v) (map (support g k s) (range (length g))) (supports g k s) (ordered-sorted k c v))

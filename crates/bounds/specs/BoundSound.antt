@@ -1,4 +1,4 @@
--- Neither bound is below the size of a k-plex that holds s and v and has no vertex outside s and c: what it adds to s is a choice that every member can pay for.
+-- Neither bound is below the size of a k-plex that holds s and v and has no vertex outside s and c: what it adds to s is a choice that every member has the support for.
 use Prim.Native.Nat.{ℕ, zero, suc, _+_, _^_, _≤_, _<_, zero-le, suc-le-suc}
 use native.Mathlib.Nat.{le-trans, not-suc-le-zero, add-zero, add-suc, suc-add, le-of-suc-le-suc, lt-of-le-of-lt}
 use native.Mathlib.Omega.{arith}
@@ -138,9 +138,9 @@ module _ (g : List ℕ) (k s c v m : ℕ) (ok : Valid g) (low : s < 2 ^ length g
           omega (arith, bit-minus (minus m s) (row g w) u, bit-minus m s u, has-in m u h, outside-s u t, ok .mutually u w q l)))
 
   -- the costs together are at most the supports
-  paid : total (missing g s) chosen ≤ supports g k s
+  within-supports : total (missing g s) chosen ≤ supports g k s
   unfolding supports members
-  paid =
+  within-supports =
       omega (
         arith,
         total-ext (missing g s) (λ u. sum (length g) (bit (minus s (row g u)))) chosen (λ u q. cost-sum u),
@@ -195,7 +195,7 @@ module _ (g : List ℕ) (k s c v m : ℕ) (ok : Valid g) (low : s < 2 ^ length g
         p v (in-below (length g) m v low-m vm) vm,
         enough,
         kept-sound g s low (ordered g k s c v) (map (support g k s) (range (length g))) (supports g k s) chosen
-            (length-map (range (length g)) (support g k s) ∙ length-range (length g)) (ordered-sorted g s low k c v) (chosen-part) (supported, paid),
+            (length-map (range (length g)) (support g k s) ∙ length-range (length g)) (ordered-sorted g s low k c v) (chosen-part) (supported, within-supports),
       )
     where
       supported : (w : ℕ) → w < length g → In w s → total (apart g w) chosen ≤ getD (map (support g k s) (range (length g))) w 0

@@ -13,7 +13,7 @@ pub mod CallLaws
 pub mod OrderLaws
 pub mod BoundLaws
 pub mod BoundSound
-pub mod PayerLaws
+pub mod TightestLaws
 pub mod SurveyLaws
 pub mod BucketLaws
 pub mod PreparedLaws

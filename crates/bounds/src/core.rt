@@ -9,7 +9,7 @@ ghost use Rattle.bounds.specs.Core.{core, Peeled};
 use sets::Set;
 
 // How many members of s v is adjacent to.
-pub fn degree(rows: &[u64], s: Set, v: usize) -> usize
+fn degree(rows: &[u64], s: Set, v: usize) -> usize
     requires { ⌜ v < length (masks (now rows)) ⌝ }
     ensures { λ r. ⌜ (r ≡ degree (masks (now (rows .entry))) (mask s) v) × (r ≤ width) ⌝ }
 {
@@ -18,7 +18,7 @@ pub fn degree(rows: &[u64], s: Set, v: usize) -> usize
 
 // One pass through the members of s by rising number: takes out each that is adjacent to fewer than m of those still left, before it looks
 // at the next.
-pub fn pass(rows: &[u64], m: usize, s: Set) -> Set
+fn pass(rows: &[u64], m: usize, s: Set) -> Set
     requires { ⌜ Inside (masks (now rows)) (mask s) ⌝ }
     ensures { λ r. ⌜ Peeled (masks (now (rows .entry))) m (mask s) (mask r) ⌝ }
 {

@@ -101,7 +101,7 @@ fn check_bound(rows: &[u64], slack: usize, s: Set, c: Set, v: usize) -> Checked
 }
 
 // The first bound: no k-plex that holds s and v and has no vertex outside s and c has more vertices. It counts the most neighbours of v in c whose
-// costs the members of s can pay together. Refusals: 1, 2, 4, 5, 7, 10. Cost: the checks, one pass over s and one over c.
+// costs the supports of s cover together. Refusals: 1, 2, 4, 5, 7, 10. Cost: the checks, one pass over s and one over c.
 pub fn first_bound(rows: &[u64], slack: usize, s: Set, c: Set, v: usize) -> BoundFound
     ensures { λ r. ⌜ boundFoundReply r ≡ firstBoundReply (masks (now (rows .entry))) slack (mask s) (mask c) v ⌝ }
 {
@@ -114,7 +114,7 @@ pub fn first_bound(rows: &[u64], slack: usize, s: Set, c: Set, v: usize) -> Boun
 }
 
 // The second bound, which is never above the first: no k-plex that holds s and v and has no vertex outside s and c has more vertices. Each neighbour of v
-// that is kept is paid for by the member with the least support. Refusals: 1, 2, 4, 5, 7, 10. Cost: the checks, one pass over s and two over c.
+// that is kept takes one off the least support among the members that it misses. Refusals: 1, 2, 4, 5, 7, 10. Cost: the checks, one pass over s and two over c.
 pub fn second_bound(rows: &[u64], slack: usize, s: Set, c: Set, v: usize) -> BoundFound
     ensures { λ r. ⌜ boundFoundReply r ≡ secondBoundReply (masks (now (rows .entry))) slack (mask s) (mask c) v ⌝ }
 {

@@ -20,7 +20,7 @@ const MOST_FLOOR: usize = 64;
 const MASKS: usize = 16384;
 
 // How many slots more than needed.
-const SPARE_SLOTS: usize = 3;
+const EXTRA_SLOTS: usize = 3;
 
 // Is it right to refuse m masks to these slots?
 fn rightly_refused(f: Refusal, m: usize, slots: &[u64]) -> bool {
@@ -67,7 +67,7 @@ fn floor(rows: &[u64], request: Request, masks: &[u64], m: usize, slots: &mut [u
         return tally::with(tally::none(), false);
     }
     let exact = agrees_with(rows, request, masks, m, slots, m);
-    let longer = agrees_with(rows, request, masks, m, slots, m + SPARE_SLOTS);
+    let longer = agrees_with(rows, request, masks, m, slots, m + EXTRA_SLOTS);
     let cases = tally::with(tally::with(tally::none(), exact), longer);
     if m == 0 {
         return cases;
@@ -98,7 +98,7 @@ fn floors(rows: &[u64], k: usize, masks: &mut [u64], slots: &mut [u64]) -> Tally
 // One graph: every slack.
 fn graph(rows: &[u64]) -> Tally {
     let mut masks = [0u64; MASKS];
-    let mut slots = [0u64; MASKS + SPARE_SLOTS];
+    let mut slots = [0u64; MASKS + EXTRA_SLOTS];
     slacks(rows, &mut masks, &mut slots)
 }
 

@@ -21,10 +21,10 @@ use Rattle.sets.specs.SizeLaws.{and-below, minus-below}
 use Rattle.sets.specs.MemberLaws.{any-members, members-any}
 use Rattle.sets.specs.WalkLaws.{Walked, walk-none, walk-next, walk-map, walk-all}
 use Rattle.judging.specs.Graph.{adjacent, missing}
-use Rattle.judging.specs.Plex.{plex, maximal, unblocked, swallowed}
+use Rattle.judging.specs.Plex.{plex, maximal, unblocked, extendable}
 use Rattle.judging.specs.Refusal.{outside, badRow, oneWay}
 use Rattle.judging.specs.PlexLaws.{plex-holds, plex-test, maximal-holds}
-use Rattle.judging.specs.SwallowLaws.{Unblocked, unblocked-below, unblocked-holds, unblocked-test}
+use Rattle.judging.specs.ExtensionLaws.{Unblocked, unblocked-below, unblocked-holds, unblocked-test}
 
 -- ---- a k-plex, member by member
 
@@ -97,18 +97,18 @@ module _ (g : List ℕ) (k s : ℕ) where
       go x l (no na) (yes b) = absurd (na (w .every x l (unblocked-holds g k s x b)))
       go x l (no na) (no nb) = omega (arith, bit-le o x, bit-le (unblocked g k s) x)
 
--- ---- a swallowed set, vertex by vertex
+-- ---- an extendable set, vertex by vertex
 
-pub swallows : (g : List ℕ) (k s x : ℕ) → In x (unblocked g k s) → missing g s x < k → true ≡ swallowed g k s
-unfolding swallowed
-swallows g k s x e m =
-    is-true (swallowed g k s)
+pub extendable-by : (g : List ℕ) (k s x : ℕ) → In x (unblocked g k s) → missing g s x < k → true ≡ extendable g k s
+unfolding extendable
+extendable-by g k s x e m =
+    is-true (extendable g k s)
     (members-any (λ (y : ℕ). ltb (missing g s y) k) (length g) (unblocked g k s) x (in-below (length g) (unblocked g k s) x (unblocked-below g k s) e) e (lt→ltb (missing g s x) k m))
 
-pub swallows-none : (g : List ℕ) (k s : ℕ) → ((x : ℕ) → In x (unblocked g k s) → k ≤ missing g s x) → false ≡ swallowed g k s
-unfolding swallowed
-swallows-none g k s f =
-    is-false (swallowed g k s) (λ t.
+pub extendable-by-none : (g : List ℕ) (k s : ℕ) → ((x : ℕ) → In x (unblocked g k s) → k ≤ missing g s x) → false ≡ extendable g k s
+unfolding extendable
+extendable-by-none g k s f =
+    is-false (extendable g k s) (λ t.
     let r = any-members (λ (y : ℕ). ltb (missing g s y) k) (length g) (unblocked g k s) t in
     omega (arith, f (r .0) (r .2), ltb→lt (missing g s (r .0)) k (r .3)))
 

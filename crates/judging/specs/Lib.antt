@@ -6,7 +6,7 @@ pub mod Setting
 pub mod Calls
 pub mod GraphLaws
 pub mod PlexLaws
-pub mod SwallowLaws
+pub mod ExtensionLaws
 pub mod RefusalLaws
 pub mod JudgeLaws
 pub mod CallLaws

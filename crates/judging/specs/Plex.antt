@@ -4,7 +4,7 @@
 --   maximal g k s     s is a maximal k-plex (document 01: a maximal theme): no other k-plex of the graph contains it
 --   Plex, Maximal     the same as statements
 --   unblocked g k s   the vertices outside s that are adjacent to each member of s that misses k or more of s
---   swallowed g k s   some vertex of unblocked g k s misses fewer than k of s: it can be added to every plex inside s
+--   extendable g k s   some vertex of unblocked g k s misses fewer than k of s: it can be added to every plex inside s
 use Prim.Native.Nat.{ℕ, _+_, _^_, _<_, _≤_}
 use mathlib.Core.Path.{_≡_}
 use mathlib.Core.Bool.{Bool, not, _&&_, _||_}
@@ -32,5 +32,5 @@ unfoldable pub unblocked : List ℕ → ℕ → ℕ → ℕ
 unblocked g k s =
     setOf (length g) (λ x. not (has s x) && all (λ v. ltb (missing g s v) k || adjacent g v x) (members (length g) s))
 
-unfoldable pub swallowed : List ℕ → ℕ → ℕ → Bool
-swallowed g k s = any (λ x. ltb (missing g s x) k) (members (length g) (unblocked g k s))
+unfoldable pub extendable : List ℕ → ℕ → ℕ → Bool
+extendable g k s = any (λ x. ltb (missing g s x) k) (members (length g) (unblocked g k s))

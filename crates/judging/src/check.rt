@@ -47,7 +47,7 @@ pub fn floor_accepted(k: usize, q: usize) -> bool
 }
 
 // Has row a its own bit, or a bit of n or above?
-pub fn is_bad_row(rows: &[u64], a: usize) -> bool
+fn is_bad_row(rows: &[u64], a: usize) -> bool
     requires { ⌜ Sized (masks (now rows)) × (a < length (masks (now rows))) ⌝ }
     ensures { λ r. ⌜ r ≡ badRow (masks (now (rows .entry))) a ⌝ }
 {
@@ -56,7 +56,7 @@ pub fn is_bad_row(rows: &[u64], a: usize) -> bool
 }
 
 // The lowest row that has its own bit or a bit of n or above; n where there is none.
-pub fn lowest_bad_row(rows: &[u64]) -> usize
+fn lowest_bad_row(rows: &[u64]) -> usize
     requires { ⌜ Sized (masks (now rows)) ⌝ }
     ensures { λ r. ⌜ r ≡ lowestRow (badRow (masks (now (rows .entry)))) (length (masks (now (rows .entry)))) ⌝ }
 {
@@ -71,7 +71,7 @@ pub fn lowest_bad_row(rows: &[u64]) -> usize
 }
 
 // The lowest row a that has a b whose row lacks a; n where there is none.
-pub fn lowest_one_way(rows: &[u64]) -> usize
+fn lowest_one_way(rows: &[u64]) -> usize
     requires { ⌜ LowRows (masks (now rows)) ⌝ }
     ensures { λ r. ⌜ r ≡ lowestRow (oneWay (masks (now (rows .entry)))) (length (masks (now (rows .entry)))) ⌝ }
 {
@@ -119,7 +119,7 @@ pub fn check_graph(rows: &[u64]) -> Checked
 }
 
 // Refusals 1, 2, 4 and 5.
-pub fn check_slack(rows: &[u64], slack: usize) -> Checked
+fn check_slack(rows: &[u64], slack: usize) -> Checked
     ensures { λ r. ⌜ checkedReply r ≡ firstOf (slackCheck (masks (now (rows .entry))) slack) passed ⌝ }
 {
     if !vertices_accepted(sets::count(rows)) {

@@ -4,7 +4,7 @@ ghost use Prim.Native.Nat.{_<_, _≤_};
 ghost use lib.ListN.{length};
 ghost use Rattle.sets.specs.Words.{width, mask, masks};
 ghost use Rattle.judging.specs.Graph.{missing};
-ghost use Rattle.judging.specs.Plex.{plex, maximal, unblocked, swallowed};
+ghost use Rattle.judging.specs.Plex.{plex, maximal, unblocked, extendable};
 ghost use Rattle.judging.specs.Setting.{Inside, Judgeable};
 use sets::Set;
 
@@ -33,7 +33,7 @@ pub fn is_plex(rows: &[u64], k: usize, s: Set) -> bool
 }
 
 // The vertices outside s that are adjacent to each member of s that misses k or more of s.
-pub fn unblocked(rows: &[u64], k: usize, s: Set) -> Set
+fn unblocked(rows: &[u64], k: usize, s: Set) -> Set
     requires { ⌜ Inside (masks (now rows)) (mask s) ⌝ }
     ensures { λ r. ⌜ mask r ≡ unblocked (masks (now (rows .entry))) k (mask s) ⌝ }
 {
@@ -50,9 +50,9 @@ pub fn unblocked(rows: &[u64], k: usize, s: Set) -> Set
 }
 
 // Is there a vertex outside s that can be added to every k-plex inside s? The vertices that no member of s blocks are given.
-pub fn is_swallowed(rows: &[u64], k: usize, s: Set, free: Set) -> bool
+pub fn is_extendable(rows: &[u64], k: usize, s: Set, free: Set) -> bool
     requires { ⌜ mask free ≡ unblocked (masks (now rows)) k (mask s) ⌝ }
-    ensures { λ r. ⌜ r ≡ swallowed (masks (now (rows .entry))) k (mask s) ⌝ }
+    ensures { λ r. ⌜ r ≡ extendable (masks (now (rows .entry))) k (mask s) ⌝ }
 {
     let mut left = free;
     while !sets::is_empty(left) {
@@ -66,12 +66,12 @@ pub fn is_swallowed(rows: &[u64], k: usize, s: Set, free: Set) -> bool
 }
 
 // Is s a maximal k-plex?
-pub fn is_maximal(rows: &[u64], k: usize, s: Set) -> bool
+pub(crate) fn is_maximal(rows: &[u64], k: usize, s: Set) -> bool
     requires { ⌜ Judgeable (masks (now rows)) (mask s) ⌝ }
     ensures { λ r. ⌜ r ≡ maximal (masks (now (rows .entry))) k (mask s) ⌝ }
 {
     if !is_plex(rows, k, s) {
         return false;
     }
-    !is_swallowed(rows, k, s, unblocked(rows, k, s))
+    !is_extendable(rows, k, s, unblocked(rows, k, s))
 }

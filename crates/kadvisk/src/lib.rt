@@ -123,7 +123,7 @@ pub extern "C" fn kadvisk_list_with(
     pairs: bool,
     second: bool,
     parted: bool,
-    swallow: bool,
+    extension: bool,
     pivot: bool,
     slots: &mut [u64],
 ) -> Outcome
@@ -135,7 +135,7 @@ pub extern "C" fn kadvisk_list_with(
         pairs,
         second,
         parted,
-        swallow,
+        extension,
         pivot,
     };
     let found = search::list_with(rows, Request { slack, floor }, cuts, slots);

@@ -13,7 +13,7 @@ use Rattle.judging.specs.Refusal.{Reply, refused, answered, firstOf, outside, v
 use Rattle.judging.specs.Calls.{graphCheck, slackCheck, requestCheck, setCheck}
 use Rattle.bounds.specs.Core.{dense, core}
 use Rattle.bounds.specs.Reach.{reach}
-use Rattle.bounds.specs.Bound.{support, usable, ordered, supports, affordable, firstBound, lesser, least, payer, kept, secondBound, largest}
+use Rattle.bounds.specs.Bound.{support, usable, ordered, supports, packable, firstBound, lesser, least, tightest, kept, secondBound, largest}
 use Rattle.bounds.specs.Calls.{coreReply, reachCheck, reachReply}
 use Rattle.bounds.specs.BoundCalls.{overlap, misplaced, boundCause, boundCheck, firstBoundReply, secondBoundReply}
 use Rattle.search.specs.Listing.{listed, listing}
@@ -77,5 +77,5 @@ edges =
     ∷ []
 
 pub edges-hold : T (hold edges)
-unfolding hold edges shown agree ring5 ring4 apart3 single path4 seven from range first all any keep total greatest joined bit has ones onesIn subset with minus setOf members row adjacent degree missing plex maximal firstOf outside vertexCause slackCause floorCause badRow oneWay lowestRow rowCause edgeCause graphCauses setCause vertexOutCause graphCheck slackCheck requestCheck setCheck dense core reach support usable ordered supports affordable firstBound lesser least payer kept secondBound largest coreReply reachCheck reachReply overlap misplaced boundCause boundCheck firstBoundReply secondBoundReply listed listing
+unfolding hold edges shown agree ring5 ring4 apart3 single path4 seven from range first all any keep total greatest joined bit has ones onesIn subset with minus setOf members row adjacent degree missing plex maximal firstOf outside vertexCause slackCause floorCause badRow oneWay lowestRow rowCause edgeCause graphCauses setCause vertexOutCause graphCheck slackCheck requestCheck setCheck dense core reach support usable ordered supports packable firstBound lesser least tightest kept secondBound largest coreReply reachCheck reachReply overlap misplaced boundCause boundCheck firstBoundReply secondBoundReply listed listing
 edges-hold = tt

@@ -18,8 +18,8 @@ use Rattle.sets.specs.BitLaws.{bit-le, bit-or, bit-minus, bit-high}
 use Rattle.sets.specs.SubsetLaws.{subset-sub, sub-subset, sub-trans, in-below, with-sub, with-same, with-other, sub-with, without-same, without-other, minus-sub}
 use Rattle.sets.specs.SizeLaws.{size-mono}
 use Rattle.judging.specs.Graph.{missing, Valid}
-use Rattle.judging.specs.Plex.{Plex, swallowed}
-use Rattle.judging.specs.SwallowLaws.{swallowed-none, unswallowed-maximal}
+use Rattle.judging.specs.Plex.{Plex, extendable}
+use Rattle.judging.specs.ExtensionLaws.{extendable-none, unextendable-maximal}
 use Rattle.bounds.specs.Bound.{secondBound}
 use Rattle.bounds.specs.BoundSetting.{Boundable}
 use Rattle.bounds.specs.BoundSound.{second-sound}
@@ -62,8 +62,8 @@ module _ (g : List ℕ) (k q s c : ℕ) where
   pub short-empty : Short g k q s (bitOr s c) → Empty g k q s c
   short-empty h x f = omega (arith, h x (f .listed .below) (f .listed .top .0) (f .lower) (f .upper), f .listed .large)
 
-  pub swallowed-empty : Valid g → T (swallowed g k (bitOr s c)) → Empty g k q s c
-  swallowed-empty ok h x f = swallowed-none g k (bitOr s c) x ok (f .listed .below) h (f .upper) (f .listed .top)
+  pub extendable-empty : Valid g → T (extendable g k (bitOr s c)) → Empty g k q s c
+  extendable-empty ok h x f = extendable-none g k (bitOr s c) x ok (f .listed .below) h (f .upper) (f .listed .top)
 
   -- a member w of s and c that misses more than k of them, no candidate itself and adjacent to every candidate
   pub stuck-empty : (w : ℕ) → In w (bitOr s c) → bit c w ≡ 0 → k < missing g (bitOr s c) w → minus c (row g w) ≡ 0 → Empty g k q s c
@@ -79,16 +79,16 @@ module _ (g : List ℕ) (k q s c : ℕ) where
           let z : bit (minus c (row g w)) u ≡ 0 = ap (λ (y : ℕ). bit y u) none ∙ bit-high 0 u (pow-pos u) in
           omega (arith, bit-minus (bitOr s c) (row g w) u, bit-minus x (row g w) u, bit-or s c u, bit-minus c (row g w) u, f .lower u, bit-le s u, bit-le c u, bit-le (row g w) u)
 
-  -- ---- a leaf: s and c together are a plex that nothing swallows
+  -- ---- a leaf: s and c together are a plex that is not extendable
 
-  module _ (ok : Valid g) (b : bitOr s c < 2 ^ length g) (p : Plex g k (bitOr s c)) (n : T (swallowed g k (bitOr s c)) → ⊥) (l : q ≤ size (bitOr s c)) where
+  module _ (ok : Valid g) (b : bitOr s c < 2 ^ length g) (p : Plex g k (bitOr s c)) (n : T (extendable g k (bitOr s c)) → ⊥) (l : q ≤ size (bitOr s c)) where
     pub leaf-found : T (found g k q s c (bitOr s c))
     leaf-found =
         found-test (bitOr s c)
         (record {
           lower = λ u. omega (arith, bit-or s c u);
           upper = λ u. le-refl (bit (bitOr s c) u);
-          listed = record { below = b; large = l; top = unswallowed-maximal g k (bitOr s c) ok p n };
+          listed = record { below = b; large = l; top = unextendable-maximal g k (bitOr s c) ok p n };
         })
 
     pub leaf-only : (y : ℕ) → y < 2 ^ length g → T (found g k q s c y) → y ≡ bitOr s c
@@ -186,7 +186,7 @@ bounded-empty g k q s c v b l x f =
     omega (
       arith,
       f .listed .large,
-      second-sound g k s (with c v) v x (b .valid) (b .payable .inside .below) (f .listed .below) (f .listed .top .0)
+      second-sound g k s (with c v) v x (b .valid) (b .supported .inside .below) (f .listed .below) (f .listed .top .0)
           (sub-trans s (with s v) x (sub-with s v) (f .lower)) (omega (arith, f .lower v, with-same s v, bit-le x v)) (λ u. go u (ℕ-discrete v u)) (b .apart),
     )
   where

@@ -21,11 +21,11 @@ use Rattle.sets.specs.SizeLaws.{minus-below}
 use Rattle.sets.specs.WalkLaws.{without-less}
 use Rattle.judging.specs.Graph.{missing, Valid}
 use Rattle.judging.specs.Refusal.{mostSlack}
-use Rattle.judging.specs.Plex.{Plex, unblocked, swallowed}
+use Rattle.judging.specs.Plex.{Plex, unblocked, extendable}
 use Rattle.judging.specs.Setting.{Inside}
 use Rattle.bounds.specs.BoundSetting.{Boundable}
 use Rattle.search.specs.Found.{found, Empty, Compatible, Short, Near}
-use Rattle.search.specs.FoundLaws.{found-holds, cut-none, short-empty, stuck-empty, swallowed-empty, leaf-found, leaf-only, branches, branches-apart, branch-without}
+use Rattle.search.specs.FoundLaws.{found-holds, cut-none, short-empty, stuck-empty, extendable-empty, leaf-found, leaf-only, branches, branches-apart, branch-without}
 use Rattle.search.specs.Partition.{Between}
 use Rattle.search.specs.Placing.{number, union, only, Adds}
 use Rattle.search.specs.PlacingLaws.{same-test, number-same, number-only, number-union, adds-none, adds-same, adds-both}
@@ -50,7 +50,7 @@ pub record Ready (g t : List ℕ) (k q s c count : ℕ) : Type 0 where
 pub record LeafReady (g : List ℕ) (k a free count : ℕ) : Type 0 where
   pub below : a < 2 ^ length g
   pub unblocking : free ≡ unblocked g k a
-  pub room : (T (swallowed g k a) → ⊥) → count + 1 < 2 ^ 64
+  pub room : (T (extendable g k a) → ⊥) → count + 1 < 2 ^ 64
 
 abbrev pub unless : Bool → ℕ → ℕ → Bool
 unless b x y = not b && eqb y x
@@ -74,8 +74,8 @@ module _ (g t : List ℕ) (k q s c count : ℕ) (h : Ready g t k q s c count) wh
     pub short-adds : Short g k q s a → Adds (2 ^ length g) (found g k q s c) slots count slots count
     short-adds l = cut-adds (short-empty g k q s c (subst (Short g k q s) e l)) slots
 
-    pub swallowed-adds : T (swallowed g k a) → Adds (2 ^ length g) (found g k q s c) slots count slots count
-    swallowed-adds l = cut-adds (swallowed-empty g k q s c (h .settled .valid) (subst (λ (x : ℕ). T (swallowed g k x)) e l)) slots
+    pub extendable-adds : T (extendable g k a) → Adds (2 ^ length g) (found g k q s c) slots count slots count
+    extendable-adds l = cut-adds (extendable-empty g k q s c (h .settled .valid) (subst (λ (x : ℕ). T (extendable g k x)) e l)) slots
 
     pub stuck-adds : (w : ℕ) → In w a → k < missing g a w → (bit c w ≡ 0) × (minus c (row g w) ≡ 0) → Adds (2 ^ length g) (found g k q s c) slots count slots count
     stuck-adds w i many z =
@@ -85,26 +85,26 @@ module _ (g t : List ℕ) (k q s c count : ℕ) (h : Ready g t k q s c count) wh
 
   module _ (a : ℕ) (e : a ≡ bitOr s c) (p : Plex g k a) (l : q ≤ size a) where
     -- what the leaf adds
-    pub leaf-adds : (y : ℕ) → y < 2 ^ length g → unless (swallowed g k a) a y ≡ found g k q s c y
-    leaf-adds = subst (λ (x : ℕ). Plex g k x → q ≤ size x → (y : ℕ) → y < 2 ^ length g → unless (swallowed g k x) x y ≡ found g k q s c y) (sym e) whole p l
+    pub leaf-adds : (y : ℕ) → y < 2 ^ length g → unless (extendable g k a) a y ≡ found g k q s c y
+    leaf-adds = subst (λ (x : ℕ). Plex g k x → q ≤ size x → (y : ℕ) → y < 2 ^ length g → unless (extendable g k x) x y ≡ found g k q s c y) (sym e) whole p l
       where
-        whole : Plex g k (bitOr s c) → q ≤ size (bitOr s c) → (y : ℕ) → y < 2 ^ length g → unless (swallowed g k (bitOr s c)) (bitOr s c) y ≡ found g k q s c y
-        whole p l y ly = go (swallowed g k (bitOr s c)) (λ t. t) (λ t. t)
+        whole : Plex g k (bitOr s c) → q ≤ size (bitOr s c) → (y : ℕ) → y < 2 ^ length g → unless (extendable g k (bitOr s c)) (bitOr s c) y ≡ found g k q s c y
+        whole p l y ly = go (extendable g k (bitOr s c)) (λ t. t) (λ t. t)
           where
-            go : (b : Bool) → (T b → T (swallowed g k (bitOr s c))) → (T (swallowed g k (bitOr s c)) → T b) → unless b (bitOr s c) y ≡ found g k q s c y
-            go true into back = same-test false (found g k q s c y) (λ z. absurd z) (λ z. swallowed-empty g k q s c (h .settled .valid) (into tt) y (found-holds g k q s c y ly z))
+            go : (b : Bool) → (T b → T (extendable g k (bitOr s c))) → (T (extendable g k (bitOr s c)) → T b) → unless b (bitOr s c) y ≡ found g k q s c y
+            go true into back = same-test false (found g k q s c y) (λ z. absurd z) (λ z. extendable-empty g k q s c (h .settled .valid) (into tt) y (found-holds g k q s c y ly z))
             go false into back =
                 same-test (eqb y (bitOr s c)) (found g k q s c y)
                 (λ z. subst (λ (x : ℕ). T (found g k q s c x)) (sym (eqb→eq y (bitOr s c) z)) (leaf-found g k q s c (h .settled .valid) whole-below p back l))
                 (λ z. subst (λ (x : ℕ). T (eqb y x)) (leaf-only g k q s c (h .settled .valid) whole-below p back l y ly z) (eqb-refl y))
 
-    pub leaf-room : (T (swallowed g k a) → ⊥) → count + 1 < 2 ^ 64
+    pub leaf-room : (T (extendable g k a) → ⊥) → count + 1 < 2 ^ 64
     leaf-room n =
         omega (
           arith,
           h .room,
-          number-same (2 ^ length g) (unless (swallowed g k a) a) (found g k q s c) leaf-adds,
-          number-same (2 ^ length g) (only a) (unless (swallowed g k a) a) (λ y l. alone (swallowed g k a) n y),
+          number-same (2 ^ length g) (unless (extendable g k a) a) (found g k q s c) leaf-adds,
+          number-same (2 ^ length g) (only a) (unless (extendable g k a) a) (λ y l. alone (extendable g k a) n y),
           number-only (2 ^ length g) a (subst (λ (x : ℕ). x < 2 ^ length g) (sym e) whole-below),
         )
       where
@@ -156,7 +156,7 @@ module _ (g t : List ℕ) (k q s c count : ℕ) (h : Ready g t k q s c count) wh
       pub with-boundable : Boundable g k s (with r v) v
       with-boundable =
           record {
-            payable = record { inside = record { some = h .settled .some; most = h .settled .most; below = h .fine .below }; slack = h .settled .slack .1; plex = h .fine .plexed };
+            supported = record { inside = record { some = h .settled .some; most = h .settled .most; below = h .fine .below }; slack = h .settled .slack .1; plex = h .fine .plexed };
             valid = h .settled .valid;
             some = h .settled .slack .0;
             vertex = vertex;

@@ -2,33 +2,33 @@
 ghost use Prim.Native.Nat.{_^_};
 ghost use lib.ListN.{length};
 ghost use Rattle.sets.specs.Words.{mask, masks};
-ghost use Rattle.judging.specs.Plex.{swallowed};
+ghost use Rattle.judging.specs.Plex.{extendable};
 ghost use Rattle.search.specs.Found.{found};
 ghost use Rattle.search.specs.Placing.{Adds};
 ghost use Rattle.search.specs.Ready.{Ready, LeafReady, unless};
 use sets::Set;
 
 // Places the plex a, unless a vertex can be added to it.
-pub fn leaf(rows: &[u64], k: usize, a: Set, free: Set, slots: &mut [u64], count: usize) -> usize
+fn leaf(rows: &[u64], k: usize, a: Set, free: Set, slots: &mut [u64], count: usize) -> usize
     requires { ⌜ LeafReady (masks (now rows)) k (mask a) (mask free) count ⌝ }
-    ensures { λ r. ⌜ Adds (2 ^ length (masks (now (rows .entry)))) (unless (swallowed (masks (now (rows .entry))) k (mask a)) (mask a))
+    ensures { λ r. ⌜ Adds (2 ^ length (masks (now (rows .entry)))) (unless (extendable (masks (now (rows .entry))) k (mask a)) (mask a))
         (masks (now (slots .entry))) count (masks (now (slots .exit))) r ⌝ }
 {
-    if judging::plex::is_swallowed(rows, k, a, free) {
+    if judging::plex::is_extendable(rows, k, a, free) {
         return count;
     }
     crate::place::push(slots, count, a)
 }
 
 // Places every listed plex that holds s and has no member outside s and c, and gives the new count.
-// The switches are the partition bound, the swallow test and the second bound; candidates are sifted by pairs for the next `few` vertices taken.
+// The switches are the partition bound, the extension test and the second bound; candidates are sifted by pairs for the next `few` vertices taken.
 pub fn branch(
     rows: &[u64],
     near: &[u64],
     k: usize,
     q: usize,
     parted: bool,
-    swallow: bool,
+    extension: bool,
     second: bool,
     few: usize,
     s: Set,
@@ -50,7 +50,7 @@ pub fn branch(
     if seen.most <= k {
         return leaf(rows, k, a, free, slots, count);
     }
-    if crate::cut::is_swallowed(rows, k, swallow, a, free) {
+    if crate::cut::is_extendable(rows, k, extension, a, free) {
         return count;
     }
     let from = crate::choice::among(rows, c, worst);
@@ -67,7 +67,7 @@ pub fn branch(
         k,
         q,
         parted,
-        swallow,
+        extension,
         second,
         few,
         s,
@@ -85,7 +85,7 @@ pub fn branch(
         k,
         q,
         parted,
-        swallow,
+        extension,
         second,
         crate::trim::fewer(few),
         joined,

@@ -15,7 +15,7 @@ ghost use Rattle.search.specs.Choice.{Pickable};
 use sets::Set;
 
 // Does a clique lack many members? Most branches are then cut by the floor, and a pivot that leaves few candidates is good enough.
-pub fn is_far(q: usize, have: usize) -> bool
+fn is_far(q: usize, have: usize) -> bool
     ensures { λ r. ⌜ r ≡ ltb (have + 8) q ⌝ }
 {
     if q <= have {
@@ -25,7 +25,7 @@ pub fn is_far(q: usize, have: usize) -> bool
 }
 
 // The candidates that some vertex of m, the pivot, is not adjacent to. The pivot is one with the fewest, or the first with `few` at most.
-pub fn pivot(rows: &[u64], c: Set, m: Set, few: usize) -> Set
+fn pivot(rows: &[u64], c: Set, m: Set, few: usize) -> Set
     requires { ⌜ Pickable (masks (now rows)) (mask m) ⌝ }
     ensures { λ r. ⌜ Covering (masks (now (rows .entry))) (mask c) (mask m) (mask r) ⌝ }
 {
@@ -60,14 +60,7 @@ pub fn agenda(rows: &[u64], c: Set, m: Set, far: bool) -> Set
 }
 
 // Places the clique s, which is maximal, if its `have` members are enough.
-pub fn place_clique(
-    q: usize,
-    have: usize,
-    s: Set,
-    n: usize,
-    slots: &mut [u64],
-    count: usize,
-) -> usize
+fn place_clique(q: usize, have: usize, s: Set, n: usize, slots: &mut [u64], count: usize) -> usize
     requires { ⌜ Placeable n q have (mask s) count ⌝ }
     ensures { λ r. ⌜ Adds (2 ^ n) (unless (ltb have q) (mask s)) (masks (now (slots .entry))) count (masks (now (slots .exit))) r ⌝ }
 {
@@ -78,7 +71,7 @@ pub fn place_clique(
 }
 
 // What `take` does where no candidate is left: places the clique s if it has no common neighbour, since m are all of these.
-pub fn end(
+fn end(
     rows: &[u64],
     q: usize,
     have: usize,
@@ -98,7 +91,7 @@ pub fn end(
 }
 
 // What `take` does where v is the only candidate.
-pub fn end_with(
+fn end_with(
     rows: &[u64],
     q: usize,
     have: usize,
@@ -117,7 +110,7 @@ pub fn end_with(
 }
 
 // What `take` does where u and v are the only candidates: a clique has both if they are adjacent, else one of them.
-pub fn end_pair(
+fn end_pair(
     rows: &[u64],
     q: usize,
     have: usize,
@@ -145,7 +138,7 @@ pub fn end_pair(
 }
 
 // Are `have` members and the candidates c fewer than q?
-pub fn is_few(q: usize, have: usize, c: Set) -> bool
+fn is_few(q: usize, have: usize, c: Set) -> bool
     requires { ⌜ have ≤ width ⌝ }
     ensures { λ r. ⌜ (r ≡ true → have + size (mask c) < q) ⌝ }
 {
@@ -157,7 +150,7 @@ pub fn is_few(q: usize, have: usize, c: Set) -> bool
 
 // Places every listed clique that holds s, which has `have` members, and has no vertex outside s and c. The common neighbours of s are m.
 // Most calls have at most two candidates, which need no pivot.
-pub fn take(
+fn take(
     rows: &[u64],
     q: usize,
     have: usize,

@@ -5,7 +5,7 @@ ghost use Prim.Native.Nat.{_≤_};
 ghost use lib.Dec.{T};
 ghost use Rattle.sets.specs.Set.{size, with};
 ghost use Rattle.sets.specs.Words.{mask, masks};
-ghost use Rattle.judging.specs.Plex.{unblocked, swallowed};
+ghost use Rattle.judging.specs.Plex.{unblocked, extendable};
 ghost use Rattle.bounds.specs.BoundSetting.{Boundable};
 ghost use Rattle.search.specs.Found.{Short, Empty};
 ghost use Rattle.search.specs.Partition.{Between};
@@ -26,12 +26,12 @@ pub fn is_short(rows: &[u64], k: usize, q: usize, parted: bool, s: Set, a: Set) 
 }
 
 // Can a vertex outside a be added to every plex inside a? The vertices that no member of a blocks are given.
-pub fn is_swallowed(rows: &[u64], k: usize, swallow: bool, a: Set, free: Set) -> bool
+pub fn is_extendable(rows: &[u64], k: usize, extension: bool, a: Set, free: Set) -> bool
     requires { ⌜ mask free ≡ unblocked (masks (now rows)) k (mask a) ⌝ }
-    ensures { λ r. ⌜ (r ≡ true → T (swallowed (masks (now (rows .entry))) k (mask a))) ⌝ }
+    ensures { λ r. ⌜ (r ≡ true → T (extendable (masks (now (rows .entry))) k (mask a))) ⌝ }
 {
-    if swallow {
-        return judging::plex::is_swallowed(rows, k, a, free);
+    if extension {
+        return judging::plex::is_extendable(rows, k, a, free);
     }
     false
 }

@@ -7,16 +7,16 @@ ghost use Rattle.search.specs.Placing.{Adds};
 ghost use Rattle.search.specs.TopLaws.{Accepted, Candidates};
 ghost use Rattle.search.specs.Calls.{Lists};
 
-pub mod branch;
-pub mod choice;
-pub mod cliques;
-pub mod cut;
-pub mod near;
-pub mod partition;
-pub mod place;
-pub mod sort;
-pub mod survey;
-pub mod trim;
+mod branch;
+mod choice;
+mod cliques;
+mod cut;
+mod near;
+mod partition;
+mod place;
+mod sort;
+mod survey;
+mod trim;
 
 use judging::Checked;
 use judging::Refusal;
@@ -36,12 +36,12 @@ pub struct Cuts {
     pub pairs: bool,
     pub second: bool,
     pub parted: bool,
-    pub swallow: bool,
+    pub extension: bool,
     pub pivot: bool,
 }
 
 // The vertices to start from: the core, or all.
-pub fn candidates(rows: &[u64], k: usize, q: usize, core: bool) -> Set
+fn candidates(rows: &[u64], k: usize, q: usize, core: bool) -> Set
     requires { ⌜ Accepted (masks (now rows)) k q ⌝ }
     ensures { λ r. ⌜ Candidates (masks (now (rows .entry))) k q (mask r) ⌝ }
 {
@@ -71,7 +71,7 @@ fn enumerate_cliques(rows: &[u64], q: usize, all: Set, slots: &mut [u64]) -> usi
 }
 
 // Places every maximal k-plex of at least q members while the slots have room, and counts them all.
-pub fn enumerate(rows: &[u64], k: usize, q: usize, cuts: Cuts, slots: &mut [u64]) -> usize
+fn enumerate(rows: &[u64], k: usize, q: usize, cuts: Cuts, slots: &mut [u64]) -> usize
     requires { ⌜ Accepted (masks (now rows)) k q ⌝ }
     ensures { λ r. ⌜ Adds (2 ^ length (masks (now (rows .entry)))) (listed (masks (now (rows .entry))) k q) (masks (now (slots .entry))) 0 (masks (now (slots .exit))) r ⌝ }
 {
@@ -98,7 +98,7 @@ pub fn enumerate(rows: &[u64], k: usize, q: usize, cuts: Cuts, slots: &mut [u64]
         k,
         q,
         cuts.parted,
-        cuts.swallow,
+        cuts.extension,
         cuts.second,
         sifted(cuts.pairs),
         sets::empty(),
@@ -141,7 +141,7 @@ pub fn list(rows: &[u64], request: Request, slots: &mut [u64]) -> ListFound
             pairs: true,
             second: false,
             parted: true,
-            swallow: true,
+            extension: true,
             pivot: true,
         },
         slots,

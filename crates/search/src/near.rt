@@ -9,7 +9,7 @@ ghost use Rattle.search.specs.NearRows.{close, pairRow, reachRow, nearRo
 use sets::Set;
 
 // Have u and v as many common neighbours in the core as two members of one k-plex of q or more members have there?
-pub fn is_close(rows: &[u64], k: usize, q: usize, core: Set, v: usize, u: usize) -> bool
+fn is_close(rows: &[u64], k: usize, q: usize, core: Set, v: usize, u: usize) -> bool
     requires { ⌜ Pairable (masks (now rows)) k q (mask core) × (v < length (masks (now rows))) × (u < length (masks (now rows))) ⌝ }
     ensures { λ r. ⌜ r ≡ close (masks (now (rows .entry))) k q (mask core) v u ⌝ }
 {
@@ -34,7 +34,7 @@ pub fn pair_row(rows: &[u64], k: usize, q: usize, core: Set, from: Set, v: usize
 }
 
 // The two-hop reach of v, or all vertices where that is switched off.
-pub fn reach_row(rows: &[u64], reach: bool, v: usize) -> Set
+fn reach_row(rows: &[u64], reach: bool, v: usize) -> Set
     requires { ⌜ LowRows (masks (now rows)) × Sized (masks (now rows)) × (v < length (masks (now rows))) ⌝ }
     ensures { λ r. ⌜ mask r ≡ reachRow (masks (now (rows .entry))) reach v ⌝ }
 {
@@ -45,15 +45,7 @@ pub fn reach_row(rows: &[u64], reach: bool, v: usize) -> Set
 }
 
 // Row v of the table by the cuts that are switched on. Pairs are counted within the reach alone, which on a sparse graph is small.
-pub fn near_row(
-    rows: &[u64],
-    k: usize,
-    q: usize,
-    core: Set,
-    reach: bool,
-    pairs: bool,
-    v: usize,
-) -> Set
+fn near_row(rows: &[u64], k: usize, q: usize, core: Set, reach: bool, pairs: bool, v: usize) -> Set
     requires { ⌜ Pairable (masks (now rows)) k q (mask core) × Valid (masks (now rows)) × (v < length (masks (now rows))) ⌝ }
     ensures { λ r. ⌜ mask r ≡ nearRow (masks (now (rows .entry))) k q (mask core) reach pairs v ⌝ }
 {

@@ -11,14 +11,14 @@ ghost use Rattle.search.specs.Partition.{Between, Picked};
 use sets::Set;
 
 // The member that misses most, how many it misses, and the other members that miss more than k.
-pub struct Choice {
+struct Choice {
     pub best: usize,
     pub most: usize,
     pub left: Set,
 }
 
 // Those that stay once u has been passed, which misses m.
-pub fn keep(k: usize, m: usize, kept: Set, u: usize) -> Set
+fn keep(k: usize, m: usize, kept: Set, u: usize) -> Set
     requires { ⌜ u < width ⌝ }
     ensures { λ r. ⌜ Sub (mask r) (with (mask kept) u) ⌝ }
 {
@@ -29,7 +29,7 @@ pub fn keep(k: usize, m: usize, kept: Set, u: usize) -> Set
 }
 
 // The member of left that misses most of r; most is k where none misses more. A member that misses at most k is dropped for good: r only shrinks.
-pub fn pick(rows: &[u64], k: usize, r: Set, left: Set) -> Choice
+fn pick(rows: &[u64], k: usize, r: Set, left: Set) -> Choice
     requires { ⌜ mask left < 2 ^ length (masks (now rows)) ⌝ }
     ensures { λ p. ⌜ Picked (masks (now (rows .entry))) k (mask r) (mask left) (p .best) (p .most) (mask (p .left)) ⌝ }
 {

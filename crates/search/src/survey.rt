@@ -16,7 +16,7 @@ pub struct Findings {
 }
 
 // What is free once v has been passed, whose row is given and which misses m.
-pub fn narrow(free: Set, row: Set, k: usize, m: usize) -> Set
+fn narrow(free: Set, row: Set, k: usize, m: usize) -> Set
     ensures { λ r. ⌜ (k ≤ m → mask r ≡ bitAnd (mask free) (mask row)) × (m < k → mask r ≡ mask free) ⌝ }
 {
     if k <= m {

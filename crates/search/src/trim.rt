@@ -8,7 +8,7 @@ ghost use mathlib.Core.Path.{_≡_};
 use sets::Set;
 
 // Drops what a member of s that misses k or more of s is not adjacent to. Only the members that v is not adjacent to can have come to that.
-pub fn drop_blocked(rows: &[u64], k: usize, s: Set, c: Set, v: usize) -> Set
+fn drop_blocked(rows: &[u64], k: usize, s: Set, c: Set, v: usize) -> Set
     requires { ⌜ Trimmable (masks (now rows)) (mask s) (mask c) v ⌝ }
     ensures { λ r. ⌜ Unblocked (masks (now (rows .entry))) k (mask s) v (mask c) (mask r) ⌝ }
 {
@@ -25,7 +25,7 @@ pub fn drop_blocked(rows: &[u64], k: usize, s: Set, c: Set, v: usize) -> Set
 }
 
 // Drops the candidates that miss k or more of s. Only those that v is not adjacent to can have come to that.
-pub fn drop_dear(rows: &[u64], k: usize, s: Set, c: Set, v: usize) -> Set
+fn drop_missing(rows: &[u64], k: usize, s: Set, c: Set, v: usize) -> Set
     requires { ⌜ Trimmable (masks (now rows)) (mask s) (mask c) v ⌝ }
     ensures { λ r. ⌜ Cheapened (masks (now (rows .entry))) k (mask s) v (mask c) (mask r) ⌝ }
 {
@@ -48,7 +48,7 @@ pub fn beside(rows: &[u64], near: &[u64], k: usize, s: Set, c: Set, v: usize) ->
 {
     let joined = sets::with(s, v);
     let close = sets::meet(sets::without(c, v), sets::get(near, v));
-    drop_dear(rows, k, joined, drop_blocked(rows, k, joined, close, v), v)
+    drop_missing(rows, k, joined, drop_blocked(rows, k, joined, close, v), v)
 }
 
 // Of `close`, which is what `beside` left, those that have enough common neighbours with v among s, v and `close` itself (001, Lemma 3). This drops many while few

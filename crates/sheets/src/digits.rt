@@ -33,7 +33,7 @@ fn byte(d: u64) -> u8
 }
 
 // Is each byte of the text a digit?
-pub fn are_digits(text: &[u8]) -> bool
+pub(crate) fn are_digits(text: &[u8]) -> bool
     ensures { λ r. ⌜ r ≡ all isDigit (now (text .entry)) ⌝ }
 {
     let mut i = 0;
@@ -47,7 +47,7 @@ pub fn are_digits(text: &[u8]) -> bool
 }
 
 // The number that the digits of the text are.
-pub fn number(text: &[u8]) -> u64
+pub(crate) fn number(text: &[u8]) -> u64
     requires { ⌜ Readable (now text) ⌝ }
     ensures { λ r. ⌜ r ≡ number (now (text .entry)) ⌝ }
 {

@@ -6,10 +6,10 @@ ghost use Rattle.sheets.specs.Digits.{digits};
 ghost use Rattle.sheets.specs.Lines.{line, isLine};
 use crate::digits;
 
-pub const NEWLINE: u8 = 10;
+pub(crate) const NEWLINE: u8 = 10;
 
 // Does a line of `places` digits stand at the position `at` of the text? One cut short or missing does not.
-pub fn is_line(text: &[u8], at: usize, places: usize) -> bool
+pub(crate) fn is_line(text: &[u8], at: usize, places: usize) -> bool
     requires { ⌜ at + places < 2 ^ 64 ⌝ }
     ensures { λ r. ⌜ r ≡ isLine places (drop at (now (text .entry))) ⌝ }
 {

@@ -31,8 +31,8 @@ pub fn list(rows: &[u64], k: usize, q: usize, slots: &mut [u64]) -> Outcome {
 }
 
 pub fn list_with(rows: &[u64], k: usize, q: usize, cuts: Cuts, slots: &mut [u64]) -> Outcome {
-    let Cuts { core, reach, pairs, second, parted, swallow, pivot } = cuts;
-    unsafe { ffi::kadvisk_list_with(rows.as_ptr(), rows.len(), k, q, core, reach, pairs, second, parted, swallow, pivot, slots.as_mut_ptr(), slots.len()) }
+    let Cuts { core, reach, pairs, second, parted, extension, pivot } = cuts;
+    unsafe { ffi::kadvisk_list_with(rows.as_ptr(), rows.len(), k, q, core, reach, pairs, second, parted, extension, pivot, slots.as_mut_ptr(), slots.len()) }
 }
 
 pub fn read_sheet(text: &[u8], rows: &mut [u64]) -> ReadOutcome {

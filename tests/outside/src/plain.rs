@@ -104,7 +104,7 @@ pub fn first_bound(rows: &[u64], k: usize, s: u64, c: u64, v: usize) -> usize {
     base(rows, k, s, v) + most
 }
 
-/// The second bound: each neighbour that is kept is paid for by the member with the least support among those it is not adjacent to.
+/// The second bound: each neighbour that is kept takes one off the least support among the members it is not adjacent to.
 pub fn second_bound(rows: &[u64], k: usize, s: u64, c: u64, v: usize) -> usize {
     let mut supports: std::collections::BTreeMap<usize, usize> = members(s).iter().map(|&w| (w, k - cost(rows, &members(s), w))).collect();
     let mut total: usize = supports.values().sum();
@@ -113,9 +113,9 @@ pub fn second_bound(rows: &[u64], k: usize, s: u64, c: u64, v: usize) -> usize {
         if cost == 0 {
             kept += 1;
         } else if cost <= total {
-            let (&payer, &support) = supports.iter().filter(|(&w, _)| !adjacent(rows, u, w)).min_by_key(|(&w, &support)| (support, w)).unwrap();
+            let (&tightest, &support) = supports.iter().filter(|(&w, _)| !adjacent(rows, u, w)).min_by_key(|(&w, &support)| (support, w)).unwrap();
             if support > 0 {
-                supports.insert(payer, support - 1);
+                supports.insert(tightest, support - 1);
                 total -= cost;
                 kept += 1;
             }

@@ -29,7 +29,7 @@ fn hold(rows: &[u64], k: usize, q: usize, want: &[u64]) {
 
 fn setting(bits: usize) -> Cuts {
     let on = |i: usize| bits >> i & 1 == 1;
-    Cuts { core: on(0), reach: on(1), pairs: on(2), second: on(3), parted: on(4), swallow: on(5), pivot: on(6) }
+    Cuts { core: on(0), reach: on(1), pairs: on(2), second: on(3), parted: on(4), extension: on(5), pivot: on(6) }
 }
 
 #[test]

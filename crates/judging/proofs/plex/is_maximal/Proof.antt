@@ -1,10 +1,10 @@
--- `judging::plex::is_maximal` meets its contract: a plex is maximal exactly if no vertex swallows it.
+-- `judging::plex::is_maximal` meets its contract: a plex is maximal exactly if it is not extendable.
 use mathlib.Core.Path.{sym, ap, _∙_}
 use mathlib.Core.Bool.{not}
 use borrow.Author.Tests.{not-true, not-false}
 use Rattle.sets.specs.RangeLaws.{true-holds}
 use Rattle.judging.specs.PlexLaws.{plex-holds}
-use Rattle.judging.specs.SwallowLaws.{maximal-by-swallow}
+use Rattle.judging.specs.ExtensionLaws.{maximal-by-extension}
 use Rattle.judging.specs.JudgeLaws.{no-plex}
 use borrow.Author.Needs.{needs}
 use Rattle.judging.proofs.plex.is_maximal.Statement.{statement}
@@ -19,16 +19,16 @@ returns c = no-plex _ _ _ (sym (c .before .is-plex .ensures) ∙ not-true _ (c .
 unblocked-requires : tie.Need-unblocked-requires
 unblocked-requires c κs = search needs
 
-is-swallowed-requires : tie.Need-is-swallowed-requires
-is-swallowed-requires c κs = search needs
+is-extendable-requires : tie.Need-is-extendable-requires
+is-extendable-requires c κs = search needs
 
 returns-2 : tie.Need-returns-2
 returns-2 c =
-    ap not (c .is-swallowed .ensures)
-    ∙ maximal-by-swallow _ _ _ (c .before .before .before .before .before .pre .valid) (c .before .before .before .before .before .pre .inside .below)
+    ap not (c .is-extendable .ensures)
+    ∙ maximal-by-extension _ _ _ (c .before .before .before .before .before .pre .valid) (c .before .before .before .before .before .pre .inside .below)
     (plex-holds _ _ _ (true-holds _ (sym (c .before .before .before .is-plex .ensures) ∙ not-false _ (c .before .before .if1 .left))))
 
 pub is-maximal-spec : {M : Type 1} → statement M
 is-maximal-spec =
     tie.close
-    (tie.spec is-plex-requires returns unblocked-requires is-swallowed-requires returns-2)
+    (tie.spec is-plex-requires returns unblocked-requires is-extendable-requires returns-2)

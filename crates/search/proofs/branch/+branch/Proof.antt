@@ -11,7 +11,7 @@ use Rattle.sets.specs.Words.{mask}
 use Rattle.sets.specs.SubsetLaws.{in-below, in-of-sub, sub-below, positive-of}
 use Rattle.search.specs.PlacingLaws.{adds-same}
 use Rattle.search.specs.Survey.{survey-plex, survey-free}
-use Rattle.search.specs.Ready.{ready-between, ready-inside, ready-joinable, ready-siftable, short-adds, swallowed-adds, stuck-adds, leaf-adds, leaf-room, with-boundable, with-ready, with-falls, without-falls, without-ready, without-adds, branches-add}
+use Rattle.search.specs.Ready.{ready-between, ready-inside, ready-joinable, ready-siftable, short-adds, extendable-adds, stuck-adds, leaf-adds, leaf-room, with-boundable, with-ready, with-falls, without-falls, without-ready, without-adds, branches-add}
 use Rattle.search.proofs.branch.branch.Reads as branch
 use Rattle.search.proofs.branch.branch.Kinds as branch-kinds
 use Rattle.search.proofs.branch.+branch.Lts-branch as branch-lts
@@ -20,7 +20,7 @@ use Rattle.search.proofs.choice.among.Reads as among-reads
 use Rattle.search.proofs.choice.pick.Reads as pick-reads
 use Rattle.search.proofs.cut.is_bounded.Reads as is-bounded-reads
 use Rattle.search.proofs.cut.is_short.Reads as is-short-reads
-use Rattle.search.proofs.cut.is_swallowed.Reads as is-swallowed-reads
+use Rattle.search.proofs.cut.is_extendable.Reads as is-extendable-reads
 use Rattle.search.proofs.survey.survey.Reads as survey-reads
 use Rattle.search.proofs.trim.beside.Reads as beside-reads
 use Rattle.search.proofs.trim.fewer.Reads as fewer-reads
@@ -52,8 +52,8 @@ calls t = (
   survey-reads.Learnt,
   leaf-reads.Asked,
   leaf-reads.Learnt,
-  is-swallowed-reads.Asked,
-  is-swallowed-reads.Learnt,
+  is-extendable-reads.Asked,
+  is-extendable-reads.Learnt,
   among-reads.Asked,
   among-reads.Learnt,
   is-empty-reads.Asked,
@@ -103,11 +103,11 @@ module _ (t : ℕ) where
   returns-2 : branch-lts.Need-returns-2 (calls t) (branch-at t) branch.Post
   returns-2 c = adds-same _ _ _ _ _ _ _ (leaf-adds _ _ _ _ _ _ _ (c .before .before .before .before .before .before .before .before .before .before .before .before .before .pre .1) _ (c .before .before .before .before .before .before .before .before .before .join .ensures) (survey-plex _ _ _ 0 _ _ _ refl (c .before .before .before .before .before .before .survey .ensures) (c .before .before .before .before .if2 .taken)) (c .before .before .before .before .before .before .before .before .is-short .ensures .1 (c .before .before .before .before .before .before .before .if1 .left))) (c .before .before .leaf .ensures)
 
-  is-swallowed-requires : branch-lts.Need-is-swallowed-requires (calls t) (branch-at t) branch.Post
-  is-swallowed-requires c κs = survey-free _ _ _ 0 _ _ _ refl (c .before .before .survey .ensures)
+  is-extendable-requires : branch-lts.Need-is-extendable-requires (calls t) (branch-at t) branch.Post
+  is-extendable-requires c κs = survey-free _ _ _ 0 _ _ _ refl (c .before .before .survey .ensures)
 
   returns-3 : branch-lts.Need-returns-3 (calls t) (branch-at t) branch.Post
-  returns-3 c = swallowed-adds _ _ _ _ _ _ _ (c .before .before .before .before .before .before .before .before .before .before .before .pre .1) _ (c .before .before .before .before .before .before .before .join .ensures) _ (c .before .is-swallowed .ensures (c .if3 .taken))
+  returns-3 c = extendable-adds _ _ _ _ _ _ _ (c .before .before .before .before .before .before .before .before .before .before .before .pre .1) _ (c .before .before .before .before .before .before .before .join .ensures) _ (c .before .is-extendable .ensures (c .if3 .taken))
 
   among-requires : branch-lts.Need-among-requires (calls t) (branch-at t) branch.Post
   among-requires c κs =
@@ -182,7 +182,7 @@ pub +branch-spec : {M : Type 1} → statement M
     (leaf-requires t)
     (same-length t)
     (returns-2 t)
-    (is-swallowed-requires t)
+    (is-extendable-requires t)
     (returns-3 t)
     (among-requires t)
     (is-empty-requires t)

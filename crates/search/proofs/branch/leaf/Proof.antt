@@ -1,4 +1,4 @@
--- `search::branch::leaf` meets its contract: a swallowed plex adds nothing, any other itself.
+-- `search::branch::leaf` meets its contract: an extendable plex adds nothing, any other itself.
 use mathlib.Core.Path.{sym, _∙_}
 use Rattle.sets.specs.RangeLaws.{false-fails}
 use Rattle.search.specs.Ready.{unless-none, unless-one}
@@ -6,23 +6,23 @@ use borrow.Author.Needs.{needs}
 use Rattle.search.proofs.branch.leaf.Statement.{statement}
 use Rattle.search.proofs.branch.leaf.Tie as tie
 
-is-swallowed-requires : tie.Need-is-swallowed-requires
-is-swallowed-requires c κs = c .before .before .pre .unblocking
+is-extendable-requires : tie.Need-is-extendable-requires
+is-extendable-requires c κs = c .before .before .pre .unblocking
 
 returns : tie.Need-returns
-returns c = unless-none _ _ _ _ _ (sym (c .before .is-swallowed .ensures) ∙ c .if1 .taken)
+returns c = unless-none _ _ _ _ _ (sym (c .before .is-extendable .ensures) ∙ c .if1 .taken)
 
 push-requires : tie.Need-push-requires
-push-requires c κs = c .before .before .before .before .before .pre .room (false-fails _ (sym (c .before .before .is-swallowed .ensures) ∙ c .before .if1 .left))
+push-requires c κs = c .before .before .before .before .before .pre .room (false-fails _ (sym (c .before .before .is-extendable .ensures) ∙ c .before .if1 .left))
 
 same-length : tie.Need-same-length
 same-length c = search needs
 
 returns-2 : tie.Need-returns-2
 returns-2 c =
-    unless-one _ _ _ _ _ _ _ (sym (c .before .before .before .before .before .is-swallowed .ensures) ∙ c .before .before .before .before .if1 .left)
+    unless-one _ _ _ _ _ _ _ (sym (c .before .before .before .before .before .is-extendable .ensures) ∙ c .before .before .before .before .if1 .left)
     (c .before .before .push .ensures _ (c .before .before .before .before .before .before .before .before .pre .below))
 
 pub leaf-spec : {M : Type 1} → statement M
 leaf-spec =
-    tie.close (tie.spec is-swallowed-requires returns push-requires same-length returns-2)
+    tie.close (tie.spec is-extendable-requires returns push-requires same-length returns-2)

@@ -13,7 +13,7 @@ use Rattle.search.proofs.cut.is_bounded.Statement.{statement}
 use Rattle.search.proofs.cut.is_bounded.Tie as tie
 
 with-requires : tie.Need-with-requires
-with-requires c κs = omega (arith, c .before .before .pre .vertex, c .before .before .pre .payable .inside .most)
+with-requires c κs = omega (arith, c .before .before .pre .vertex, c .before .before .pre .supported .inside .most)
 
 second-bound-requires : tie.Need-second-bound-requires
 second-bound-requires c κs = subst (λ (x : ℕ). Boundable (masks (now (c .before .before .before .args .rows))) (c .before .before .before .args .k) (mask (c .before .before .before .args .s)) x (c .before .before .before .args .v)) (sym (c .with .ensures)) (c .before .before .before .pre)

@@ -25,8 +25,8 @@ drop-blocked-requires c κs =
     near-trimmable _ _ _ _ _ (joined .before .before .before .pre) _ _ (joined .with .ensures)
     (c .meet .ensures ∙ ap₂ bitAnd (c .before .before .without .ensures) (c .before .get .ensures))
 
-drop-dear-requires : tie.Need-drop-dear-requires
-drop-dear-requires c κs =
+drop-missing-requires : tie.Need-drop-missing-requires
+drop-missing-requires c κs =
     let met = c .before in
     let joined = met .before .before .before in
     still-trimmable _ _ _ _ _ _
@@ -39,7 +39,7 @@ returns c =
     let joined = met .before .before .before in
     beside-all _ _ _ _ _ (joined .before .before .before .pre) _ _ (joined .with .ensures)
     (met .meet .ensures ∙ ap₂ bitAnd (met .before .before .without .ensures) (met .before .get .ensures))
-    _ _ _ (c .before .drop-blocked .ensures) (c .drop-dear .ensures)
+    _ _ _ (c .before .drop-blocked .ensures) (c .drop-missing .ensures)
 
 pub beside-spec : {M : Type 1} → statement M
 beside-spec =
@@ -50,5 +50,5 @@ beside-spec =
     get-requires
     meet-requires
     drop-blocked-requires
-    drop-dear-requires
+    drop-missing-requires
     returns)

@@ -1,4 +1,4 @@
--- Laws of the member that pays: it is found by one walk, and it depends on the supports of the members alone.
+-- Laws of the member with the least support: it is found by one walk, and it depends on the supports of the members alone.
 use Prim.Native.Nat.{ℕ, suc, _-_, _^_, _≤_, _<_}
 use native.Mathlib.Nat.{le-refl}
 use native.Mathlib.Omega.{arith}
@@ -19,10 +19,10 @@ use Rattle.sets.specs.BitLaws.{bit-le, bit-minus}
 use Rattle.sets.specs.SubsetLaws.{has-in, in-has, not-in, not-has, sub-trans, minus-sub, in-of-sub, in-below, positive}
 use Rattle.sets.specs.SizeLaws.{some-member, minus-below}
 use Rattle.judging.specs.Graph.{adjacent, missing}
-use Rattle.bounds.specs.Bound.{lesser, least, payer, kept}
+use Rattle.bounds.specs.Bound.{lesser, least, tightest, kept}
 use Rattle.bounds.specs.BoundSetting.{LeastMember}
 use Rattle.bounds.specs.OrderLaws.{keep-keep, members-keep, members-none, members-lowest}
-use Rattle.bounds.specs.BoundLaws.{least-mem, after, after-length, payer-pays, kept-dear, kept-free, kept-paid, kept-broke}
+use Rattle.bounds.specs.BoundLaws.{least-mem, after, after-length, tightest-apart, kept-costly, kept-free, kept-charged, kept-spent}
 
 -- ---- the least support, by one walk
 
@@ -120,9 +120,9 @@ less-agree sp tp i w a b e = go (ℕ-discrete w i)
 
 module _ (g : List ℕ) (s : ℕ) (low : s < 2 ^ length g) where
   -- the members that u is not adjacent to, as a set
-  pub payer-least : (sp : List ℕ) (u : ℕ) → payer g s sp u ≡ least sp 0 (members (length g) (minus s (row g u)))
-  unfolding payer members adjacent
-  payer-least sp u =
+  pub tightest-least : (sp : List ℕ) (u : ℕ) → tightest g s sp u ≡ least sp 0 (members (length g) (minus s (row g u)))
+  unfolding tightest members adjacent
+  tightest-least sp u =
       ap (least sp 0)
       (keep-keep (has s) (λ w. not (has (row g u) w)) (range (length g))
       ∙ sym (members-keep (length g) (minus s (row g u)) (λ w. has s w && not (has (row g u) w)) (λ w l e. into w e) (λ w l t. back w t)))
@@ -141,25 +141,25 @@ module _ (g : List ℕ) (s : ℕ) (low : s < 2 ^ length g) where
             not-in (row g u) w (and-right (has s w) (not (has (row g u) w)) t),
           )
 
-  -- a vertex that costs something has a payer, and the walk finds it
-  pub payers-some : (u m : ℕ) → m ≡ minus s (row g u) → 0 < missing g s u → 0 < m
+  -- a vertex that costs something has a tightest, and the walk finds it
+  pub non-neighbours-some : (u m : ℕ) → m ≡ minus s (row g u) → 0 < missing g s u → 0 < m
   unfolding missing
-  payers-some u m e p =
+  non-neighbours-some u m e p =
       let x = some-member (minus s (row g u)) p in
       subst (λ (z : ℕ). 0 < z) (sym e) (positive (minus s (row g u)) (x .0) (x .1))
 
-  pub least-payer : (sp : List ℕ) (u m w : ℕ) → m ≡ minus s (row g u) → LeastMember sp m w → w ≡ payer g s sp u
-  least-payer sp u m w e y =
+  pub least-tightest : (sp : List ℕ) (u m w : ℕ) → m ≡ minus s (row g u) → LeastMember sp m w → w ≡ tightest g s sp u
+  least-tightest sp u m w e y =
       y .is (length g) (subst (λ (z : ℕ). z < 2 ^ length g) (sym e) (minus-below (length g) s (row g u) low))
       ∙ ap (λ (z : ℕ). least sp 0 (members (length g) z)) e
-      ∙ sym (payer-least sp u)
+      ∙ sym (tightest-least sp u)
 
   abbrev pub Agree : List ℕ → List ℕ → Type 0
   Agree sp tp = (w : ℕ) → w < length g → In w s → getD sp w 0 ≡ getD tp w 0
 
-  payer-agree : (sp tp : List ℕ) (u : ℕ) → Agree sp tp → payer g s sp u ≡ payer g s tp u
-  unfolding payer members
-  payer-agree sp tp u e =
+  tightest-agree : (sp tp : List ℕ) (u : ℕ) → Agree sp tp → tightest g s sp u ≡ tightest g s tp u
+  unfolding tightest members
+  tightest-agree sp tp u e =
       least-agree sp tp 0 (keep (λ w. not (adjacent g u w)) (keep (has s) (range (length g)))) (λ w m.
       let i = keep-mem (has s) (range (length g)) w (keep-mem (λ (x : ℕ). not (adjacent g u x)) (keep (has s) (range (length g))) w m .0) in
       e w (range-mem (length g) w (i .0)) (has-in s w (i .1)))
@@ -167,32 +167,32 @@ module _ (g : List ℕ) (s : ℕ) (low : s < 2 ^ length g) where
   after-agree : (sp tp : List ℕ) (u : ℕ) → length g ≤ length sp → length g ≤ length tp → Agree sp tp → Agree (after g s low sp u) (after g s low tp u)
   unfolding after
   after-agree sp tp u a b e w l m =
-      subst (λ (x : ℕ). getD (set sp (payer g s sp u) (getD sp (payer g s sp u) 0 - 1)) w 0 ≡ getD (set tp x (getD tp x 0 - 1)) w 0)
-      (payer-agree sp tp u e)
-      (less-agree sp tp (payer g s sp u) w (omega arith) (omega arith) (e w l m))
+      subst (λ (x : ℕ). getD (set sp (tightest g s sp u) (getD sp (tightest g s sp u) 0 - 1)) w 0 ≡ getD (set tp x (getD tp x 0 - 1)) w 0)
+      (tightest-agree sp tp u e)
+      (less-agree sp tp (tightest g s sp u) w (omega arith) (omega arith) (e w l m))
 
   -- what is kept depends on the supports of the members alone
   pub kept-agree : (us sp tp : List ℕ) (b : ℕ) → length g ≤ length sp → length g ≤ length tp → Agree sp tp → kept g s sp b us ≡ kept g s tp b us
   unfolding kept
   kept-agree [] sp tp b l r e = refl
   kept-agree (u ∷ us) sp tp b l r e =
-      go (kept-agree us) (decLt b (missing g s u)) (ℕ-discrete (missing g s u) 0) (decLt 0 (getD sp (payer g s sp u) 0))
+      go (kept-agree us) (decLt b (missing g s u)) (ℕ-discrete (missing g s u) 0) (decLt 0 (getD sp (tightest g s sp u) 0))
     where
-      same : 0 < missing g s u → getD tp (payer g s tp u) 0 ≡ getD sp (payer g s sp u) 0
+      same : 0 < missing g s u → getD tp (tightest g s tp u) 0 ≡ getD sp (tightest g s sp u) 0
       same p =
-          let y = payer-pays g s low sp u p in
-          ap (λ (x : ℕ). getD tp x 0) (sym (payer-agree sp tp u e)) ∙ sym (e (payer g s sp u) (y .below) (y .member))
+          let y = tightest-apart g s low sp u p in
+          ap (λ (x : ℕ). getD tp x 0) (sym (tightest-agree sp tp u e)) ∙ sym (e (tightest g s sp u) (y .below) (y .member))
 
       go : ((sp tp : List ℕ) (b : ℕ) → length g ≤ length sp → length g ≤ length tp → Agree sp tp → kept g s sp b us ≡ kept g s tp b us)
-          → Dec (b < missing g s u) → Dec (missing g s u ≡ 0) → Dec (0 < getD sp (payer g s sp u) 0) → kept g s sp b (u ∷ us) ≡ kept g s tp b (u ∷ us)
-      go ih (yes d) z q = kept-dear g s low sp b u us d ∙ ih sp tp b l r e ∙ sym (kept-dear g s low tp b u us d)
+          → Dec (b < missing g s u) → Dec (missing g s u ≡ 0) → Dec (0 < getD sp (tightest g s sp u) 0) → kept g s sp b (u ∷ us) ≡ kept g s tp b (u ∷ us)
+      go ih (yes d) z q = kept-costly g s low sp b u us d ∙ ih sp tp b l r e ∙ sym (kept-costly g s low tp b u us d)
       go ih (no nd) (yes z) q = kept-free g s low sp b u us z ∙ ap suc (ih sp tp b l r e) ∙ sym (kept-free g s low tp b u us z)
       go ih (no nd) (no nz) (yes q) =
-          kept-paid g s low sp b u us (omega arith) (omega arith) q
+          kept-charged g s low sp b u us (omega arith) (omega arith) q
           ∙ ap suc
           (ih (after g s low sp u) (after g s low tp u) (b - missing g s u) (omega (arith, after-length g s low sp u)) (omega (arith, after-length g s low tp u)) (after-agree sp tp u l r e))
-          ∙ sym (kept-paid g s low tp b u us (omega arith) (omega arith) (omega (arith, same (omega arith))))
+          ∙ sym (kept-charged g s low tp b u us (omega arith) (omega arith) (omega (arith, same (omega arith))))
       go ih (no nd) (no nz) (no nq) =
-          kept-broke g s low sp b u us (omega arith) (omega arith) (omega arith)
+          kept-spent g s low sp b u us (omega arith) (omega arith) (omega arith)
           ∙ ih sp tp b l r e
-          ∙ sym (kept-broke g s low tp b u us (omega arith) (omega arith) (omega (arith, same (omega arith))))
+          ∙ sym (kept-spent g s low tp b u us (omega arith) (omega arith) (omega (arith, same (omega arith))))

@@ -1,4 +1,4 @@
--- A vertex that no saturated member of a set blocks can be added to every plex inside the set; so a plex is maximal exactly if it is not swallowed.
+-- A vertex that no saturated member of a set blocks can be added to every plex inside the set; so a plex is maximal exactly if it is not extendable.
 use Prim.Native.Nat.{ℕ, _^_, _≤_, _<_}
 use native.Mathlib.Omega.{arith}
 use native.Mathlib.Decide.{ℕ-discrete, decLt}
@@ -16,7 +16,7 @@ use Rattle.sets.specs.BitLaws.{bit-le}
 use Rattle.sets.specs.SubsetLaws.{sub-refl, with-other, with-same, sub-with, in-of-sub, not-has, not-in}
 use Rattle.sets.specs.MemberLaws.{set-of-below, set-of-in, set-of-holds, all-members, members-all, any-members, members-any}
 use Rattle.judging.specs.Graph.{adjacent, missing, Valid}
-use Rattle.judging.specs.Plex.{maximal, Plex, Maximal, unblocked, swallowed}
+use Rattle.judging.specs.Plex.{maximal, Plex, Maximal, unblocked, extendable}
 use Rattle.judging.specs.GraphLaws.{missing-mono, missing-with, adjacent-in, in-adjacent}
 use Rattle.judging.specs.PlexLaws.{maximal-by-one, one-by-maximal, maximal-holds, maximal-test}
 
@@ -81,19 +81,19 @@ module _ (g : List ℕ) (k : ℕ) where
               let near = u .1 v l (in-of-sub t a v h inside) (omega arith) in
               omega (arith, missing-with g t x v out, near, p v l inside)
 
-  -- so no plex inside a swallowed set is maximal
-  pub swallowed-none : (a t : ℕ) → Valid g → t < 2 ^ length g → T (swallowed g k a) → Sub t a → Maximal g k t → ⊥
-  unfolding swallowed
-  swallowed-none a t ok b s h m =
+  -- so no plex inside an extendable set is maximal
+  pub extendable-none : (a t : ℕ) → Valid g → t < 2 ^ length g → T (extendable g k a) → Sub t a → Maximal g k t → ⊥
+  unfolding extendable
+  extendable-none a t ok b s h m =
       let r = any-members (λ (x : ℕ). ltb (missing g a x) k) (length g) (unblocked g k a) s in
       let u = unblocked-holds a (r .0) (r .2) in
       one-by-maximal g k t b m (r .0) (r .1) (omega (arith, h (r .0), u .0))
       (unblocked-adds a t (r .0) ok (r .1) u (ltb→lt (missing g a (r .0)) k (r .3)) h (m .0))
 
-  -- and a plex that is not swallowed is maximal
-  pub unswallowed-maximal : (s : ℕ) → Valid g → Plex g k s → (T (swallowed g k s) → ⊥) → Maximal g k s
-  unfolding swallowed
-  unswallowed-maximal s ok p f =
+  -- and a plex that is not extendable is maximal
+  pub unextendable-maximal : (s : ℕ) → Valid g → Plex g k s → (T (extendable g k s) → ⊥) → Maximal g k s
+  unfolding extendable
+  unextendable-maximal s ok p f =
       maximal-by-one g k s p (λ x l e q.
       f (members-any (λ (y : ℕ). ltb (missing g s y) k) (length g) (unblocked g k s) x l
       (unblocked-test s x l (e, λ v lv h m. near x e q v lv h m))
@@ -104,9 +104,9 @@ module _ (g : List ℕ) (k : ℕ) where
           omega (arith, missing-with g s x v e, bit-le (row g v) x, q v lv (in-of-sub s (with s x) v (sub-with s x) h))
 
   -- the test of maximality, from the two tests of the code
-  pub maximal-by-swallow : (s : ℕ) → Valid g → s < 2 ^ length g → Plex g k s → not (swallowed g k s) ≡ maximal g k s
-  maximal-by-swallow s ok b p = go (swallowed g k s) (λ t. t) (λ t. t)
+  pub maximal-by-extension : (s : ℕ) → Valid g → s < 2 ^ length g → Plex g k s → not (extendable g k s) ≡ maximal g k s
+  maximal-by-extension s ok b p = go (extendable g k s) (λ t. t) (λ t. t)
     where
-      go : (w : Bool) → (T w → T (swallowed g k s)) → (T (swallowed g k s) → T w) → not w ≡ maximal g k s
-      go true into back = is-false (maximal g k s) (λ t. swallowed-none s s ok b (into tt) (sub-refl s) (maximal-holds g k s t))
-      go false into back = is-true (maximal g k s) (maximal-test g k s (unswallowed-maximal s ok p back))
+      go : (w : Bool) → (T w → T (extendable g k s)) → (T (extendable g k s) → T w) → not w ≡ maximal g k s
+      go true into back = is-false (maximal g k s) (λ t. extendable-none s s ok b (into tt) (sub-refl s) (maximal-holds g k s t))
+      go false into back = is-true (maximal g k s) (maximal-test g k s (unextendable-maximal s ok p back))

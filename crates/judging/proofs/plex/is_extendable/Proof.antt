@@ -1,4 +1,4 @@
--- `judging::plex::is_swallowed` meets its contract: the vertices passed miss k or more, and the first that misses fewer decides.
+-- `judging::plex::is_extendable` meets its contract: the vertices passed miss k or more, and the first that misses fewer decides.
 use Prim.Native.Nat.{ℕ, _≤_}
 use native.Mathlib.Omega.{arith}
 use mathlib.Core.Path.{sym, subst}
@@ -6,10 +6,10 @@ use Rattle.sets.specs.Words.{mask, masks}
 use Rattle.sets.specs.WalkLaws.{Walked, walk-none, walk-next, walk-all, walk-falls, walk-member, walk-below, walk-goes-on, walk-over}
 use Rattle.judging.specs.Graph.{missing}
 use Rattle.judging.specs.Plex.{unblocked}
-use Rattle.judging.specs.SwallowLaws.{unblocked-below}
-use Rattle.judging.specs.JudgeLaws.{swallows, swallows-none}
-use Rattle.judging.proofs.plex.is_swallowed.Statement.{statement}
-use Rattle.judging.proofs.plex.is_swallowed.Tie as tie
+use Rattle.judging.specs.ExtensionLaws.{unblocked-below}
+use Rattle.judging.specs.JudgeLaws.{extendable-by, extendable-by-none}
+use Rattle.judging.proofs.plex.is_extendable.Statement.{statement}
+use Rattle.judging.proofs.plex.is_extendable.Tie as tie
 
 abbrev Inv-loop : tie.InvT-loop
 Inv-loop rows k s free left₀ left = Walked (λ (x : ℕ). k ≤ missing (masks rows) (mask s) x) (unblocked (masks rows) k (mask s)) (mask left)
@@ -30,7 +30,7 @@ missing-requires : tie.Need-missing-requires Inv-loop μ-loop
 missing-requires c κs = walk-below _ _ _ _ (unblocked-below _ _ _) (c .before .before .before .loop .inv .part) (c .lowest .ensures)
 
 returns : tie.Need-returns Inv-loop μ-loop
-returns c = swallows _ _ _ _ (walk-member _ _ _ (c .before .before .before .before .before .loop .inv .part) (c .before .before .lowest .ensures)) (omega arith)
+returns c = extendable-by _ _ _ _ (walk-member _ _ _ (c .before .before .before .before .before .loop .inv .part) (c .before .before .lowest .ensures)) (omega arith)
 
 rest-requires : tie.Need-rest-requires Inv-loop μ-loop
 rest-requires c κs = c .before .before .lowest .ensures
@@ -42,10 +42,10 @@ loop-again : tie.Need-loop-again Inv-loop μ-loop
 loop-again c = walk-next _ _ _ _ _ (c .rest .ensures) (c .before .before .before .before .before .before .loop .inv) (omega arith)
 
 returns-2 : tie.Need-returns-2 Inv-loop μ-loop
-returns-2 c = swallows-none _ _ _ (walk-all _ _ _ (walk-over _ _ (c .before .is-empty .ensures) (c .if1 .left)) (c .before .before .loop .inv))
+returns-2 c = extendable-by-none _ _ _ (walk-all _ _ _ (walk-over _ _ (c .before .is-empty .ensures) (c .if1 .left)) (c .before .before .loop .inv))
 
-pub is-swallowed-spec : {M : Type 1} → statement M
-is-swallowed-spec =
+pub is-extendable-spec : {M : Type 1} → statement M
+is-extendable-spec =
     tie.close
     (tie.spec
     Inv-loop

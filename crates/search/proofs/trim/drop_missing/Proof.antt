@@ -1,10 +1,10 @@
--- `search::trim::drop_dear` meets its contract: what is dropped at each step is in no plex that holds s.
+-- `search::trim::drop_missing` meets its contract: what is dropped at each step is in no plex that holds s.
 use Rattle.sets.specs.Words.{mask, masks}
 use Rattle.sets.specs.SizeLaws.{minus-below}
 use Rattle.sets.specs.WalkLaws.{walk-falls, walk-below, walk-goes-on, walk-over}
 use Rattle.search.specs.TrimLaws.{Cheapening, cheapening-none, cheapening-next, cheapening-all}
-use Rattle.search.proofs.trim.drop_dear.Statement.{statement}
-use Rattle.search.proofs.trim.drop_dear.Tie as tie
+use Rattle.search.proofs.trim.drop_missing.Statement.{statement}
+use Rattle.search.proofs.trim.drop_missing.Tie as tie
 
 abbrev Inv-loop : tie.InvT-loop
 Inv-loop rows k s c v kept₀ left₀ kept left = Cheapening (masks rows) k (mask s) v (mask c) (mask left) (mask kept)
@@ -49,8 +49,8 @@ returns c =
       cheap = cheapening-all _ _ _ _ _ (c .before .before .before .before .before .before .pre) _ _ (walk-over _ _ (c .before .is-empty .ensures) (c .if1 .left)) (c .before .before .loop .inv);
     }
 
-pub drop-dear-spec : {M : Type 1} → statement M
-drop-dear-spec =
+pub drop-missing-spec : {M : Type 1} → statement M
+drop-missing-spec =
     tie.close
     (tie.spec
     Inv-loop

@@ -1,0 +1,18 @@
+-- `search::cut::is_extendable` meets its contract.
+use mathlib.Core.Path.{sym, _∙_}
+use Rattle.sets.specs.RangeLaws.{true-holds, true-is-not-false}
+use borrow.Author.Needs.{needs}
+use Rattle.search.proofs.cut.is_extendable.Statement.{statement}
+use Rattle.search.proofs.cut.is_extendable.Tie as tie
+
+is-extendable-requires : tie.Need-is-extendable-requires
+is-extendable-requires c κs = search needs
+
+returns : tie.Need-returns
+returns c = λ e. true-holds _ (sym (c .is-extendable .ensures) ∙ e)
+
+returns-2 : tie.Need-returns-2
+returns-2 c = λ e. absurd (true-is-not-false (sym e))
+
+pub is-extendable-spec : {M : Type 1} → statement M
+is-extendable-spec = tie.close (tie.spec is-extendable-requires returns returns-2)
