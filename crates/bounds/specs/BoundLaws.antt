@@ -152,10 +152,10 @@ module _ (g : List ℕ) (s : ℕ) (low : s < 2 ^ length g) where
   kept-charged sp b u us l p q =
       simp (le-ltb b (missing g s u) l, ne-eqb (missing g s u) 0 (λ e. omega (arith, e)), lt-ltb 0 (getD sp (tightest g s sp u) 0) q)
 
-  pub kept-spent : (sp : List ℕ) (b u : ℕ) (us : List ℕ) → missing g s u ≤ b → 0 < missing g s u → getD sp (tightest g s sp u) 0 ≡ 0
+  pub kept-unsupported : (sp : List ℕ) (b u : ℕ) (us : List ℕ) → missing g s u ≤ b → 0 < missing g s u → getD sp (tightest g s sp u) 0 ≡ 0
       → kept g s sp b (u ∷ us) ≡ kept g s sp b us
   unfolding kept
-  kept-spent sp b u us l p q =
+  kept-unsupported sp b u us l p q =
       simp (le-ltb b (missing g s u) l, ne-eqb (missing g s u) 0 (λ e. omega (arith, e)), le-ltb 0 (getD sp (tightest g s sp u) 0) (omega arith))
 
   -- ---- feasible choices
@@ -281,7 +281,7 @@ module _ (g : List ℕ) (s : ℕ) (low : s < 2 ^ length g) where
             ih (after sp u) (b - missing g s u) (r .0) (after-length sp u ∙ e) (o .1) (r .2)
                 (feasible-taken sp b u (r .0) e (tightest-apart sp u (omega arith)) (subst (Feasible sp b) (r .1) f)),
           )
-      go ih (no nd) (no nz) (no nq) (inl r) = omega (arith, kept-spent sp b u us (omega arith) (omega arith) (omega arith), ih sp b ds e (o .1) r f)
+      go ih (no nd) (no nz) (no nq) (inl r) = omega (arith, kept-unsupported sp b u us (omega arith) (omega arith) (omega arith), ih sp b ds e (o .1) r f)
       go ih (no nd) (no nz) (no nq) (inr r) =
           absurd (omega (arith, taken-tightest sp b u (r .0) (tightest-apart sp u (omega arith)) (subst (Feasible sp b) (r .1) f)))
 
@@ -383,7 +383,7 @@ module _ (g : List ℕ) (s : ℕ) (low : s < 2 ^ length g) where
       go ih (no nd) (no nz) (no nq) =
           omega (
             arith,
-            kept-spent sp b u us (omega arith) (omega arith) (omega arith),
+            kept-unsupported sp b u us (omega arith) (omega arith) (omega arith),
             pack-some u us b (omega arith),
             ih sp b (o .1),
             pack-less us b (missing g s u) (o .1) (o .0) (omega arith),

@@ -22,7 +22,7 @@ use Rattle.judging.specs.Graph.{adjacent, missing}
 use Rattle.bounds.specs.Bound.{lesser, least, tightest, kept}
 use Rattle.bounds.specs.BoundSetting.{LeastMember}
 use Rattle.bounds.specs.OrderLaws.{keep-keep, members-keep, members-none, members-lowest}
-use Rattle.bounds.specs.BoundLaws.{least-mem, after, after-length, tightest-apart, kept-costly, kept-free, kept-charged, kept-spent}
+use Rattle.bounds.specs.BoundLaws.{least-mem, after, after-length, tightest-apart, kept-costly, kept-free, kept-charged, kept-unsupported}
 
 -- ---- the least support, by one walk
 
@@ -193,6 +193,6 @@ module _ (g : List ℕ) (s : ℕ) (low : s < 2 ^ length g) where
           (ih (after g s low sp u) (after g s low tp u) (b - missing g s u) (omega (arith, after-length g s low sp u)) (omega (arith, after-length g s low tp u)) (after-agree sp tp u l r e))
           ∙ sym (kept-charged g s low tp b u us (omega arith) (omega arith) (omega (arith, same (omega arith))))
       go ih (no nd) (no nz) (no nq) =
-          kept-spent g s low sp b u us (omega arith) (omega arith) (omega arith)
+          kept-unsupported g s low sp b u us (omega arith) (omega arith) (omega arith)
           ∙ ih sp tp b l r e
-          ∙ sym (kept-spent g s low tp b u us (omega arith) (omega arith) (omega (arith, same (omega arith))))
+          ∙ sym (kept-unsupported g s low tp b u us (omega arith) (omega arith) (omega (arith, same (omega arith))))
