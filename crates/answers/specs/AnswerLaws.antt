@@ -58,11 +58,10 @@ over-both n a b t u p l e f =
     ∙ sym (append-assoc a b (drop (length b) (drop n t)))
     ∙ ap (λ (v : List ℕ). (a ++ b) ++ v) (drop-drop (length b) n t ∙ ap (λ (m : ℕ). drop m t) long)
 
--- buffers of so many slots and bytes, as a program makes them
-pub zeros-room : (slots bytes : ℕ) → listLength slots ≤ bytes → refusalLength ≤ bytes → Room (masks (replicate slots 0)) (replicate bytes 0)
-zeros-room slots bytes l h =
-    let long : length (masks (replicate slots 0)) ≡ slots = sym (count-masks (replicate slots 0)) ∙ length-replicate slots 0 in
-    record { list = omega (arith, length-replicate {A = ℕ} bytes 0); refusal = omega (arith, length-replicate {A = ℕ} bytes 0) }
+-- so many slots, and bytes for the longest answer to them
+pub enough-room : (words out : List ℕ) (slots bytes : ℕ) → length words ≡ slots → length out ≡ bytes → listLength slots ≤ bytes → refusalLength ≤ bytes
+    → Room (masks words) out
+enough-room words out slots bytes e f l h = record { list = omega (arith, count-masks words); refusal = omega arith }
 
 -- ---- a list
 

@@ -21,12 +21,16 @@ fn list_out(rows: &[u64], request: Request, slots: &mut [u64], out: &mut [u8]) -
     }
 }
 
+// How many slots the program has, and the length of the longest answer: a line of 17 bytes for m, and one for each slot.
+pub const SLOTS: usize = 4096;
+
+pub const MOST_OUTPUT: usize = 69649;
+
 // Answers the text: reads it as a sheet, lists the maximal k-plexes into the slots, and writes what the program prints to the front of `out`.
 // Outcome: how many bytes that is; the bytes beyond keep their contents.
 // What is printed for a text that is refused is its refusal, which leaves the slots as they were; number 6 makes all of them 0.
 // Cost: that of the list.
-pub fn answer(text: &[u8], slots: &mut [u64], out: &mut [u8]) -> usize
-    requires { ⌜ Room (masks (now slots)) (now out) ⌝ }
+pub fn answer(text: &[u8], slots: &mut [u64; SLOTS], out: &mut [u8; MOST_OUTPUT]) -> usize
     ensures { λ r. ⌜ Answers (now (text .entry)) (masks (now (slots .entry))) (masks (now (slots .exit))) (now (out .entry)) (now (out .exit)) r ⌝ }
 {
     let mut rows = [0u64; check::MOST_VERTICES];

@@ -12,8 +12,23 @@ use Rattle.judging.specs.Calls.{refusal, numberOf, valueOf, passed, chec
 use Rattle.judging.specs.Setting.{Sized, LowRows}
 use Rattle.judging.specs.RefusalLaws.{first-holds, first-skips, first-refused, first-passed, low-rows}
 use Rattle.judging.specs.declared.Refusal.{Refusal}
+use Rattle.judging.specs.declared.Refusal.the-variants.{Vertices, Slack, Floor, Row, OneWay, Slots, Outside, Line, Room, Bound}
 use Rattle.judging.specs.declared.Checked.{Checked}
 use Rattle.judging.specs.declared.Checked.the-variants.{Passed, Failed}
+
+-- ---- number 0 tells a success: no refusal has it
+
+pub refusal-number : (f : Refusal) → 1 ≤ numberOf f
+refusal-number Vertices = omega arith
+refusal-number Slack = omega arith
+refusal-number Floor = omega arith
+refusal-number (Row a) = omega arith
+refusal-number (OneWay a) = omega arith
+refusal-number (Slots m) = omega arith
+refusal-number Outside = omega arith
+refusal-number (Line l) = omega arith
+refusal-number (Room n) = omega arith
+refusal-number Bound = omega arith
 
 -- ---- the outcome of a check, whatever the call then answers
 

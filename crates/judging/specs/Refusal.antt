@@ -1,6 +1,9 @@
 -- When a call declines (document 01): the causes with their numbers and values, and the first of them that holds.
 --
---   Reply A             what a call answers: a refusal with its number and value, or a success (number 0) with its value and what was found
+--   Reply A             what a call answers: a refusal with its number and value, or a success with its value and what was found
+--   replyNumber r       the number of the reply r: a success has number 0
+--   replyValue r        the value of the reply r
+--   foundIn f r         what f makes of what was found; 0 where that is nothing, since the call declines
 --   Cause               whether it holds, its number and its value
 --   firstOf cs r        the first cause of cs that holds, as a refusal, and else r
 --   vertexCause, ..     the causes of the table, each in a line; those of one upper crate alone stand there
@@ -17,6 +20,18 @@ use Rattle.judging.specs.Graph.{adjacent}
 pub data Reply (A : Type 0) : Type 0 where
   refused : (number value : ℕ) → Reply A
   answered : (value : ℕ) → A → Reply A
+
+abbrev pub replyNumber : {A : Type 0} → Reply A → ℕ
+replyNumber (refused n v) = n
+replyNumber (answered v a) = 0
+
+abbrev pub replyValue : {A : Type 0} → Reply A → ℕ
+replyValue (refused n v) = v
+replyValue (answered v a) = v
+
+abbrev pub foundIn : {A : Type 0} → (A → ℕ) → Reply A → ℕ
+foundIn f (refused n v) = 0
+foundIn f (answered v a) = f a
 
 pub record Cause : Type 0 where
   pub holds : Bool

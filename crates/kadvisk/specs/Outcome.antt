@@ -1,7 +1,5 @@
 -- What the exported calls answer, for every input: the replies of the layers below as plain structs.
 --
---   success v x             the outcome of a success with the value v that found x
---   declined n v            the outcome of the refusal n with the value v;  unread n v, the same of reading a sheet
 --   outcome found reply     the number, the value and what was found; of a refusal nothing is found, and that is 0
 --   yesNo, itself, nothing  what is found as a number: 1 for yes and 0 for no; a set's mask or a bound; 0 where the value says all
 --   readOutcome reply       the same of a sheet that is read, with its n, k and q; of a refusal these are 0
@@ -11,22 +9,15 @@ use mathlib.Core.Path.{_≡_}
 use mathlib.Core.Bool.{Bool, cond}
 use mathlib.Core.List.{List}
 use lib.ListN.{length}
-use Rattle.judging.specs.Refusal.{Reply, refused, answered}
+use Rattle.judging.specs.Refusal.{Reply, replyNumber, replyValue, foundIn}
 use Rattle.search.specs.Calls.{listReply, slotsAfter}
 use Rattle.sheets.specs.Calls.{Heading, headingOf}
 use Rattle.sheets.specs.Sheet.{sheetText, reading, writing, rowsAfter, textAfter}
 use Rattle.kadvisk.specs.declared.Outcome.{Outcome}
 use Rattle.kadvisk.specs.declared.ReadOutcome.{ReadOutcome}
 
-abbrev pub success : ℕ → ℕ → Outcome
-success v x = record { number = 0; value = v; found = x }
-
-abbrev pub declined : ℕ → ℕ → Outcome
-declined n v = record { number = n; value = v; found = 0 }
-
 abbrev pub outcome : {A : Type 0} → (A → ℕ) → Reply A → Outcome
-outcome found (refused n v) = declined n v
-outcome found (answered v a) = success v (found a)
+outcome found r = record { number = replyNumber r; value = replyValue r; found = foundIn found r }
 
 abbrev pub yesNo : Bool → ℕ
 yesNo b = cond b 1 0
@@ -37,12 +28,15 @@ itself x = x
 abbrev pub nothing : Unit {0} → ℕ
 nothing u = 0
 
-abbrev pub unread : ℕ → ℕ → ReadOutcome
-unread n v = record { number = n; value = v; vertices = 0; slack = 0; floor = 0 }
-
 abbrev pub readOutcome : Reply Heading → ReadOutcome
-readOutcome (refused n v) = unread n v
-readOutcome (answered v h) = record { number = 0; value = v; vertices = h .vertices; slack = h .slack; floor = h .floor }
+readOutcome r =
+    record {
+      number = replyNumber r;
+      value = replyValue r;
+      vertices = foundIn (λ h. h .vertices) r;
+      slack = foundIn (λ h. h .slack) r;
+      floor = foundIn (λ h. h .floor) r;
+    }
 
 -- ---- the calls that write to a lent buffer
 

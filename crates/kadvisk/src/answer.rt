@@ -5,8 +5,9 @@ ghost use Rattle.bounds.specs.Calls.{coreFoundReply, reachFoundReply};
 ghost use Rattle.bounds.specs.BoundCalls.{boundFoundReply};
 ghost use Rattle.search.specs.Calls.{listFoundReply};
 ghost use Rattle.sheets.specs.Calls.{readReply, writtenReply};
-ghost use Rattle.judging.specs.Calls.{numberOf, valueOf};
-ghost use Rattle.kadvisk.specs.Outcome.{outcome, readOutcome, yesNo, itself, nothing, success, declined};
+ghost use Rattle.judging.specs.Refusal.{answered};
+ghost use Rattle.judging.specs.Calls.{refusal};
+ghost use Rattle.kadvisk.specs.Outcome.{outcome, readOutcome, yesNo, itself, nothing};
 use crate::Outcome;
 use crate::ReadOutcome;
 use bounds::BoundFound;
@@ -20,7 +21,7 @@ use sheets::SheetWritten;
 
 // A success that found x.
 fn found(x: u64) -> Outcome
-    ensures { λ r. ⌜ r ≡ success 0 x ⌝ }
+    ensures { λ r. ⌜ r ≡ outcome itself (answered 0 x) ⌝ }
 {
     Outcome {
         number: 0,
@@ -31,7 +32,7 @@ fn found(x: u64) -> Outcome
 
 // A success whose value says all.
 fn valued(x: usize) -> Outcome
-    ensures { λ r. ⌜ r ≡ success x 0 ⌝ }
+    ensures { λ r. ⌜ r ≡ outcome nothing (answered x tt) ⌝ }
 {
     Outcome {
         number: 0,
@@ -40,11 +41,11 @@ fn valued(x: usize) -> Outcome
     }
 }
 
-fn refused(refusal: Refusal) -> Outcome
-    ensures { λ r. ⌜ r ≡ declined (numberOf refusal) (valueOf refusal) ⌝ }
+fn refused(f: Refusal) -> Outcome
+    ensures { λ r. ⌜ r ≡ outcome nothing (refusal f) ⌝ }
 {
-    let number = judging::number(refusal);
-    let value = judging::value(refusal);
+    let number = judging::number(f);
+    let value = judging::value(f);
     Outcome {
         number,
         value,

@@ -6,15 +6,10 @@ use libc::STDOUT_FILENO;
 // One byte more than the longest sheet has.
 const MOST_TEXT: usize = 1096;
 
-const SLOTS: usize = 4096;
-
-// A line of 17 bytes for m, and one for each slot.
-const MOST_OUTPUT: usize = 69649;
-
 fn main() {
     let mut text = [0u8; MOST_TEXT];
-    let mut slots = [0u64; SLOTS];
-    let mut out = [0u8; MOST_OUTPUT];
+    let mut slots = [0u64; 4096];
+    let mut out = [0u8; answers::MOST_OUTPUT];
     let n = io::read_full(STDIN_FILENO, &mut text);
     let r = answers::answer(&text[..n], &mut slots, &mut out);
     io::write_all(STDOUT_FILENO, &out[..r]);

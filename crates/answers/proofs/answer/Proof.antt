@@ -3,6 +3,7 @@ use Prim.Native.Nat.{ℕ, _≤_}
 use mathlib.Core.Path.{_≡_, sym, ap, _∙_}
 use mathlib.Core.List.{List}
 use denote.Ref.{now}
+use lib.Dec.{lit≤}
 use lib.ListN.{length, replicate}
 use lib.Seq.{length-take-le}
 use Rattle.sets.specs.Words.{width, masks}
@@ -10,7 +11,8 @@ use Rattle.sets.specs.Words.Operations.{count-masks}
 use Rattle.judging.specs.Refusal.{answered, mostVertices}
 use Rattle.sheets.specs.Sheet.{reading, rowsAfter}
 use Rattle.sheets.specs.Calls.{heading, headingOf, readReply}
-use Rattle.answers.specs.AnswerLaws.{rows-fit, answer-listed, answer-refused}
+use Rattle.answers.specs.AnswerLaws.{rows-fit, enough-room, answer-listed, answer-refused}
+use native.Mathlib.Omega.{arith}
 use borrow.Author.Needs.{needs}
 use Rattle.answers.proofs.answer.Statement.{statement}
 use Rattle.answers.proofs.answer.Tie as tie
@@ -26,7 +28,7 @@ enum-known-read c = search needs
 
 -- where a sheet was read: the start, what line 1 said, and the words that hold the rows
 abbrev start : tie.After-known-told → tie.Start
-start c = c .before .before .before .before .before .before .before .before .before
+start c = c .before .before .before .before .before .before .before
 
 abbrev n : tie.After-known-told → ℕ
 n c = c .before .read .given .0 .0
@@ -66,37 +68,28 @@ slice-aggregate-list-out : tie.Need-slice-aggregate-list-out
 slice-aggregate-list-out c = sym (length-take-le (n (c .before)) (words (c .before)) (fits (c .before)))
 
 list-out-requires : tie.Need-list-out-requires
-list-out-requires c κs = search needs
+list-out-requires c κs = enough-room _ _ 4096 69649 (c .before .list-out-arg .given .0 .1) (c .list-out-arg2 .given .0 .1) (lit≤ tt) (lit≤ tt)
 
 enum-known-read-2 : tie.Need-enum-known-read-2
 enum-known-read-2 c = search needs
 
 write-refusal-requires : tie.Need-write-refusal-requires
-write-refusal-requires c κs = search needs
-
-same-length : tie.Need-same-length
-same-length c = search needs
-
-same-length-2 : tie.Need-same-length-2
-same-length-2 c = search needs
+write-refusal-requires c κs = omega (arith, c .write-refusal-arg .given .0 .1)
 
 returns : tie.Need-returns
 returns c =
-    let at = c .before .before .before .before .before .before .before .before in
+    let at = c .before .before .before .before in
     let s = start at .args in
-    let listed = c .before .before .before .before .list-out in
+    let listed = c .list-out in
     answer-listed (now (s .text)) (n at) (k at) (q at) (masks (replicate width 0)) (words at) (gave at) (stored at)
     (masks (now (s .slots))) (masks (listed .last .1 .1 .0)) (now (s .out)) (listed .last .1 .1 .1 .0) (listed .result) (listed .ensures)
 
-same-length-3 : tie.Need-same-length-3
-same-length-3 c = search needs
-
 returns-2 : tie.Need-returns-2
 returns-2 c =
-    let s = c .before .before .before .before .before .before .before .before .before .before .before .before .before .args in
-    let first = c .before .before .before .before .before .before .before .before .read-sheet in
-    let refused = c .before .before .before .before .before .read2 .given in
-    let written = c .before .before .write-refusal in
+    let s = c .before .before .before .before .before .before .before .before .before .args in
+    let first = c .before .before .before .before .before .before .read-sheet in
+    let refused = c .before .before .before .read2 .given in
+    let written = c .write-refusal in
     answer-refused (now (s .text)) (masks (now (s .slots))) (now (s .out)) (written .last .1 .0) (written .result) (refused .0 .0)
     (sym (ap readReply (refused .1)) ∙ first .ensures .reply ∙ ap (λ (m : ℕ). headingOf (reading (now (s .text)) m)) room) (written .ensures)
 
@@ -112,8 +105,5 @@ answer-spec =
     list-out-requires
     enum-known-read-2
     write-refusal-requires
-    same-length
-    same-length-2
     returns
-    same-length-3
     returns-2)

@@ -1,10 +1,9 @@
--- `kplexes::main` is safe: the buffers have room for every answer, and no more bytes are printed than were written.
+-- The program is safe: no more bytes are printed than were written.
 use mathlib.Core.Path.{sym}
 use Prim.Native.Nat.{_≤_}
-use lib.Dec.{lit≤}
 use lib.ListN.{length}
 use lib.Seq.{length-take-le}
-use Rattle.answers.specs.AnswerLaws.{zeros-room, writes-fit}
+use Rattle.answers.specs.AnswerLaws.{writes-fit}
 use borrow.Author.Needs.{needs}
 use Rattle.kplexes.proofs.main.Statement.{statement}
 use Rattle.kplexes.proofs.main.Tie as tie
@@ -21,25 +20,19 @@ array-share-prefix-text c = search needs
 slice-aggregate-answer : tie.Need-slice-aggregate-answer
 slice-aggregate-answer c = search needs
 
-slice-aggregate-answer-2 : tie.Need-slice-aggregate-answer-2
-slice-aggregate-answer-2 c = search needs
-
-slice-aggregate-answer-3 : tie.Need-slice-aggregate-answer-3
-slice-aggregate-answer-3 c = search needs
-
 answer-requires : tie.Need-answer-requires
-answer-requires c κs = zeros-room 4096 69649 (lit≤ tt) (lit≤ tt)
+answer-requires c κs = search needs
 
 fits : (c : tie.After-answer) → c .answer .result ≤ length (c .answer .last .1 .1 .0)
 fits c = writes-fit _ _ (c .answer .last .1 .1 .0) (c .answer .result) (c .answer .ensures .written)
 
 array-share-prefix-out : tie.Need-array-share-prefix-out
-array-share-prefix-out c = fits (c .before .before)
+array-share-prefix-out c = fits c
 
 slice-aggregate-write-all : tie.Need-slice-aggregate-write-all
 slice-aggregate-write-all c =
-    let answer = c .before .before .before .answer in
-    sym (length-take-le (answer .result) (answer .last .1 .1 .0) (fits (c .before .before .before)))
+    let answer = c .before .answer in
+    sym (length-take-le (answer .result) (answer .last .1 .1 .0) (fits (c .before)))
 
 write-all-requires : tie.Need-write-all-requires
 write-all-requires c κs = search needs
@@ -55,8 +48,6 @@ main-spec =
     read-full-requires
     array-share-prefix-text
     slice-aggregate-answer
-    slice-aggregate-answer-2
-    slice-aggregate-answer-3
     answer-requires
     array-share-prefix-out
     slice-aggregate-write-all

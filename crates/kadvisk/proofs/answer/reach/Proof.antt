@@ -1,10 +1,12 @@
 -- `kadvisk::answer::reach` meets its contract: each arm gives the outcome of the answer that it matched.
+use Prim.Native.Nat.{ℕ}
 use mathlib.Core.Path.{sym, ap, _∙_}
 use borrow.Author.Needs.{needs}
 use Rattle.sets.specs.Words.{mask-word}
+use Rattle.judging.specs.Refusal.{answered}
 use Rattle.bounds.specs.Calls.{reachFoundReply}
 use Rattle.bounds.specs.declared.ReachFound.{ReachFound}
-use Rattle.kadvisk.specs.Outcome.{outcome, success, itself}
+use Rattle.kadvisk.specs.Outcome.{outcome, itself}
 use Rattle.kadvisk.proofs.answer.reach.Statement.{statement}
 use Rattle.kadvisk.proofs.answer.reach.Tie as tie
 
@@ -21,7 +23,10 @@ refused-requires : tie.Need-refused-requires
 refused-requires c κs = search needs
 
 returns : tie.Need-returns
-returns c = c .found .ensures ∙ sym (ap (success 0) (mask-word (c .before .before .answer .given .0 .0))) ∙ sym (ap (λ (a : ReachFound). outcome itself (reachFoundReply a)) (c .before .before .answer .given .1))
+returns c =
+    c .found .ensures
+    ∙ sym (ap (λ (x : ℕ). outcome itself (answered 0 x)) (mask-word (c .before .before .answer .given .0 .0)))
+    ∙ sym (ap (λ (a : ReachFound). outcome itself (reachFoundReply a)) (c .before .before .answer .given .1))
 
 returns-2 : tie.Need-returns-2
 returns-2 c = c .refused .ensures ∙ sym (ap (λ (a : ReachFound). outcome itself (reachFoundReply a)) (c .before .before .answer2 .given .1))

@@ -1,9 +1,11 @@
 -- `kadvisk::answer::read` meets its contract: each arm gives the outcome of the answer that it matched.
+use Prim.Native.Nat.{ℕ}
 use mathlib.Core.Path.{sym, ap, ap₂, _∙_}
 use borrow.Author.Needs.{needs}
+use Rattle.judging.specs.Refusal.{refused}
 use Rattle.sheets.specs.Calls.{readReply}
 use Rattle.sheets.specs.declared.SheetRead.{SheetRead}
-use Rattle.kadvisk.specs.Outcome.{readOutcome, unread}
+use Rattle.kadvisk.specs.Outcome.{readOutcome}
 use Rattle.kadvisk.proofs.answer.read.Statement.{statement}
 use Rattle.kadvisk.proofs.answer.read.Tie as tie
 
@@ -24,7 +26,7 @@ returns c = sym (ap (λ (a : SheetRead). readOutcome (readReply a)) (c .before .
 
 returns-2 : tie.Need-returns-2
 returns-2 c =
-    ap₂ unread (c .before .number .ensures) (c .value .ensures)
+    ap₂ (λ (n v : ℕ). readOutcome (refused n v)) (c .before .number .ensures) (c .value .ensures)
     ∙ sym (ap (λ (a : SheetRead). readOutcome (readReply a)) (c .before .before .before .answer2 .given .1))
 
 pub read-spec : {M : Type 1} → statement M
