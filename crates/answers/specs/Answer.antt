@@ -6,7 +6,7 @@
 --   slotsLeft t slots     the slots at exit
 --   Writes new old out r  r bytes, new, were written to the front of old, which leaves out
 --   Answers               the promise: the bytes written, their number, and the slots
---   Room slots out        what is required: the longest answer fits
+--   Room slots out        the longest answer fits: what the functions below the entry point rely on
 use Prim.Native.Nat.{ℕ, _≤_}
 use mathlib.Core.Path.{_≡_}
 use mathlib.Core.List.{List}

@@ -21,7 +21,7 @@ fn list_out(rows: &[u64], request: Request, slots: &mut [u64], out: &mut [u8]) -
     }
 }
 
-// How many slots the program has, and the length of the longest answer: a line of 17 bytes for m, and one for each slot.
+// How many slots the program has (document 01), and the length of the longest answer: a line of 17 bytes for m, and one for each slot.
 pub const SLOTS: usize = 4096;
 
 pub const MOST_OUTPUT: usize = 69649;
