@@ -21,14 +21,13 @@
  *
  * A refusal leaves every buffer as it was, but for 6, which makes all slots 0. Nothing is allocated or kept between calls, and calls may run at the same
  * time on other buffers. The caller sees to it that a pointer is not null, is aligned, and has as many elements behind it as the length after it says
- * (which may be 0); that a buffer that is written overlaps no other; and that a bool is 0 or 1.
+ * (which may be 0); and that a buffer that is written overlaps no other.
  *
  * Link with libkadvisk.a (x86-64 Linux). All calls are proved: for every input what they answer, what the buffers then hold, and that they end.
  */
 #ifndef KADVISK_H
 #define KADVISK_H
 
-#include <stdbool.h>
 #include <stddef.h>
 #include <stdint.h>
 
@@ -75,16 +74,20 @@ kadvisk_outcome kadvisk_second_bound(const uint64_t *rows, size_t n, size_t slac
  * which makes all slots 0. So a call with room 0 counts: m = 0 is a success, and any other m comes with refusal 6. */
 kadvisk_outcome kadvisk_list(const uint64_t *rows, size_t n, size_t slack, size_t floor, uint64_t *slots, size_t room);
 
-/* The same list, by a search whose cuts are switched on or off; only the time differs. kadvisk_list has all on but second.
- *    core       start from the core instead of all vertices
- *    reach      beside a vertex that is taken keep only its two-hop reach
- *    pairs      beside a vertex that is taken keep only those with enough common neighbours
- *    second     skip a vertex whose second bound is below the floor
- *    parted     leave a branch whose partition bound is below the floor
- *    extension  leave a branch to all of whose k-plexes one vertex can be added
- *    pivot      at slack 1 take only the vertices that a pivot is not adjacent to (of the others only core then counts) */
-kadvisk_outcome kadvisk_list_with(const uint64_t *rows, size_t n, size_t slack, size_t floor, bool core, bool reach, bool pairs, bool second, bool parted,
-                                  bool extension, bool pivot, uint64_t *slots, size_t room);
+/* The cuts of the search, for kadvisk_list_with. */
+enum {
+    KADVISK_CORE = 1,       /* start from the core instead of all vertices */
+    KADVISK_REACH = 2,      /* beside a vertex that is taken keep only its two-hop reach */
+    KADVISK_PAIRS = 4,      /* beside a vertex that is taken keep only those with enough common neighbours */
+    KADVISK_SECOND = 8,     /* skip a vertex whose second bound is below the floor */
+    KADVISK_PARTED = 16,    /* leave a branch whose partition bound is below the floor */
+    KADVISK_EXTENSION = 32, /* leave a branch to all of whose k-plexes one vertex can be added */
+    KADVISK_PIVOT = 64      /* at slack 1 take only the vertices that a pivot is not adjacent to (of the others only the core then counts) */
+};
+
+/* The same list, by a search with just these cuts switched on. It is there to measure the cuts: the answer is the same for every word of flags, and only
+ * the time differs. kadvisk_list has all of them on but KADVISK_SECOND. Other bits are not looked at. */
+kadvisk_outcome kadvisk_list_with(const uint64_t *rows, size_t n, size_t slack, size_t floor, uint64_t flags, uint64_t *slots, size_t room);
 
 /* Reads a sheet: line 1 has n, k and q in two hexadecimal digits each, capitals for A to F, then each row has a line of 16, and every line ends in byte 10.
  * The first n of the rows become the graph, and the later ones keep what they held. Refusals, in this order: 8 at line 1, 1, 2, 3, 8, 4, 5, 9. */

@@ -107,7 +107,7 @@ impl fmt::Display for Refusal {
 
 impl std::error::Error for Refusal {}
 
-/// The cuts of the search, each with its switch. Every setting gives the same list; only the time differs.
+/// The cuts of the search, each with its switch, for measuring. Every setting gives the same list; only the time differs.
 #[derive(Clone, Copy, Debug, PartialEq, Eq)]
 pub struct Cuts {
     /// Start from the core instead of all vertices.
@@ -124,6 +124,14 @@ pub struct Cuts {
     pub extension: bool,
     /// At slack 1 take only the vertices that a pivot is not adjacent to. Of the other cuts only `core` then counts.
     pub pivot: bool,
+}
+
+impl Cuts {
+    /// The cuts that are on, as the flags of `include/kadvisk.h`.
+    pub fn flags(self) -> u64 {
+        let Cuts { core, reach, pairs, second, parted, extension, pivot } = self;
+        [core, reach, pairs, second, parted, extension, pivot].iter().rev().fold(0, |flags, &on| flags << 1 | u64::from(on))
+    }
 }
 
 impl Default for Cuts {
@@ -213,10 +221,7 @@ pub fn list(rows: &[u64], slack: usize, floor: usize, slots: &mut [u64]) -> Resu
 
 /// As [`list`], with each cut of the search switched on or off.
 pub fn list_with(rows: &[u64], slack: usize, floor: usize, cuts: Cuts, slots: &mut [u64]) -> Result<usize, Refusal> {
-    let Cuts { core, reach, pairs, second, parted, extension, pivot } = cuts;
-    valued(unsafe {
-        ffi::kadvisk_list_with(rows.as_ptr(), rows.len(), slack, floor, core, reach, pairs, second, parted, extension, pivot, slots.as_mut_ptr(), slots.len())
-    })
+    valued(unsafe { ffi::kadvisk_list_with(rows.as_ptr(), rows.len(), slack, floor, cuts.flags(), slots.as_mut_ptr(), slots.len()) })
 }
 
 /// How many maximal k-plexes of at least `floor` members there are.

@@ -30,6 +30,7 @@ fn lists() {
     assert_eq!(kadvisk::list_with(&RING, 2, 3, off, &mut slots), Ok(5));
     assert_eq!(slots[..5], LIST);
     assert_eq!(kadvisk::list_with(&RING, 2, 3, Cuts::default(), &mut slots[..4]), Err(Refusal::Slots(5)));
+    assert_eq!((off.flags(), Cuts::default().flags(), Cuts { second: true, ..off }.flags(), Cuts { pivot: true, ..off }.flags()), (0, 1 + 2 + 4 + 16 + 32 + 64, 8, 64));
     assert_eq!(slots, [0, 0, 0, 0, 0x1C, 9, 9]);
 }
 

@@ -112,33 +112,32 @@ pub extern "C" fn kadvisk_list(
     answer::listed(found)
 }
 
-// The same list, with each cut of the search switched on or off. Only the time differs.
+// The cuts that the bits of a word switch on: bit 0 is the core, and so on in the order of include/kadvisk.h. Every setting gives the same list, so
+// nothing is promised of it.
+fn cuts(flags: u64) -> Cuts {
+    Cuts {
+        core: sets::has(flags, 0),
+        reach: sets::has(flags, 1),
+        pairs: sets::has(flags, 2),
+        second: sets::has(flags, 3),
+        parted: sets::has(flags, 4),
+        extension: sets::has(flags, 5),
+        pivot: sets::has(flags, 6),
+    }
+}
+
+// The same list, with each cut of the search switched on or off: for measuring, as only the time differs.
 #[no_mangle]
 pub extern "C" fn kadvisk_list_with(
     rows: &[u64],
     slack: usize,
     floor: usize,
-    core: bool,
-    reach: bool,
-    pairs: bool,
-    second: bool,
-    parted: bool,
-    extension: bool,
-    pivot: bool,
+    flags: u64,
     slots: &mut [u64],
 ) -> Outcome
     ensures { λ r. ⌜ Listed (masks (now (rows .entry))) slack floor (masks (now (slots .entry))) (masks (now (slots .exit))) r ⌝ }
 {
-    let cuts = Cuts {
-        core,
-        reach,
-        pairs,
-        second,
-        parted,
-        extension,
-        pivot,
-    };
-    let found = search::list_with(rows, Request { slack, floor }, cuts, slots);
+    let found = search::list_with(rows, Request { slack, floor }, cuts(flags), slots);
     answer::listed(found)
 }
 

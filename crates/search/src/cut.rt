@@ -11,6 +11,15 @@ ghost use Rattle.search.specs.Found.{Short, Empty};
 ghost use Rattle.search.specs.Partition.{Between};
 use sets::Set;
 
+// Is the partition bound asked? Once s and k come to the floor nearly every branch lists something, and the bound only costs.
+fn is_asked(k: usize, q: usize, parted: bool, s: Set) -> bool {
+    let have = sets::size(s);
+    if q <= have {
+        return false;
+    }
+    parted && k < q - have
+}
+
 // Has every plex between s and a fewer than q members: by the size of a, or by the partition bound?
 pub fn is_short(rows: &[u64], k: usize, q: usize, parted: bool, s: Set, a: Set) -> bool
     requires { ⌜ Between (masks (now rows)) (mask s) (mask a) ⌝ }
@@ -19,7 +28,7 @@ pub fn is_short(rows: &[u64], k: usize, q: usize, parted: bool, s: Set, a: Set) 
     if sets::size(a) < q {
         return true;
     }
-    if parted {
+    if is_asked(k, q, parted, s) {
         return crate::partition::falls_short(rows, k, q, s, a);
     }
     false

@@ -1,6 +1,5 @@
 //! The exported calls on slices, with the plain numbers of their outcomes.
 use kadvisk::ffi::{self, Outcome, ReadOutcome};
-use kadvisk::Cuts;
 
 pub fn is_plex(rows: &[u64], k: usize, s: u64) -> Outcome {
     unsafe { ffi::kadvisk_is_plex(rows.as_ptr(), rows.len(), k, s) }
@@ -30,9 +29,8 @@ pub fn list(rows: &[u64], k: usize, q: usize, slots: &mut [u64]) -> Outcome {
     unsafe { ffi::kadvisk_list(rows.as_ptr(), rows.len(), k, q, slots.as_mut_ptr(), slots.len()) }
 }
 
-pub fn list_with(rows: &[u64], k: usize, q: usize, cuts: Cuts, slots: &mut [u64]) -> Outcome {
-    let Cuts { core, reach, pairs, second, parted, extension, pivot } = cuts;
-    unsafe { ffi::kadvisk_list_with(rows.as_ptr(), rows.len(), k, q, core, reach, pairs, second, parted, extension, pivot, slots.as_mut_ptr(), slots.len()) }
+pub fn list_with(rows: &[u64], k: usize, q: usize, flags: u64, slots: &mut [u64]) -> Outcome {
+    unsafe { ffi::kadvisk_list_with(rows.as_ptr(), rows.len(), k, q, flags, slots.as_mut_ptr(), slots.len()) }
 }
 
 pub fn read_sheet(text: &[u8], rows: &mut [u64]) -> ReadOutcome {

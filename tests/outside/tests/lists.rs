@@ -1,5 +1,4 @@
 //! The list: against trying all sets up to 16 vertices, and against the published algorithm up to 64; every setting of the cuts; what the slots hold.
-use kadvisk::Cuts;
 use outside::calls::{list, list_with, refused, success};
 use outside::cases::{all_graphs, graph, many};
 use outside::instances::{self, Rng};
@@ -25,11 +24,6 @@ fn hold(rows: &[u64], k: usize, q: usize, want: &[u64]) {
     } else {
         assert_eq!(list(rows, k, q, &mut []), success(0, 0));
     }
-}
-
-fn setting(bits: usize) -> Cuts {
-    let on = |i: usize| bits >> i & 1 == 1;
-    Cuts { core: on(0), reach: on(1), pairs: on(2), second: on(3), parted: on(4), extension: on(5), pivot: on(6) }
 }
 
 #[test]
@@ -126,11 +120,11 @@ fn every_setting_of_the_cuts_gives_the_same_list() {
         }
         for bits in 0..128 {
             let mut slots = vec![GARBAGE; want.len() + 1];
-            assert_eq!(list_with(&rows, k, q, setting(bits), &mut slots), success(want.len(), 0), "{:?} {rows:X?} k={k} q={q}", setting(bits));
-            assert_eq!(slots[..want.len()], want, "{:?} {rows:X?} k={k} q={q}", setting(bits));
+            assert_eq!(list_with(&rows, k, q, bits, &mut slots), success(want.len(), 0), "flags {bits} {rows:X?} k={k} q={q}");
+            assert_eq!(slots[..want.len()], want, "flags {bits} {rows:X?} k={k} q={q}");
             assert_eq!(slots[want.len()], GARBAGE);
             let mut short = vec![GARBAGE; want.len().saturating_sub(1)];
-            let outcome = list_with(&rows, k, q, setting(bits), &mut short);
+            let outcome = list_with(&rows, k, q, bits, &mut short);
             assert_eq!(outcome, if want.is_empty() { success(0, 0) } else { refused((6, want.len())) });
             assert!(want.is_empty() || short.iter().all(|&slot| slot == 0));
         }

@@ -5,6 +5,9 @@ use Rattle.kadvisk.specs.Outcome.{outcome, nothing}
 use Rattle.kadvisk.proofs.kadvisk_list_with.Statement.{statement}
 use Rattle.kadvisk.proofs.kadvisk_list_with.Tie as tie
 
+cuts-requires : tie.Need-cuts-requires
+cuts-requires c κs = search needs
+
 list-with-requires : tie.Need-list-with-requires
 list-with-requires c κs = search needs
 
@@ -20,4 +23,4 @@ returns c =
     record { answer = c .listed .ensures ∙ ap (outcome nothing) (left .reply); slots = left .slots }
 
 pub kadvisk-list-with-spec : {M : Type 1} → statement M
-kadvisk-list-with-spec = tie.close (tie.spec list-with-requires listed-requires same-length returns)
+kadvisk-list-with-spec = tie.close (tie.spec cuts-requires list-with-requires listed-requires same-length returns)

@@ -15,14 +15,17 @@ size-requires c κs = search needs
 returns : tie.Need-returns
 returns c = (λ _. small-short (masks (now (c .before .before .before .args .rows))) (c .before .before .before .args .k) (c .before .before .before .args .q) (mask (c .before .before .before .args .s)) 0 (mask (c .before .before .before .args .a)) (omega (arith, c .if1 .taken, c .before .size .ensures .0)), λ e. absurd (true-is-not-false e))
 
+is-asked-requires : tie.Need-is-asked-requires
+is-asked-requires c κs = search needs
+
 falls-short-requires : tie.Need-falls-short-requires
 falls-short-requires c κs = search needs
 
 returns-2 : tie.Need-returns-2
-returns-2 c = (c .falls-short .ensures, λ _. omega (arith, c .before .before .if1 .left, c .before .before .before .size .ensures .0))
+returns-2 c = (c .falls-short .ensures, λ _. omega (arith, c .before .before .before .if1 .left, c .before .before .before .before .size .ensures .0))
 
 returns-3 : tie.Need-returns-3
-returns-3 c = (λ e. absurd (true-is-not-false (sym e)), λ _. omega (arith, c .before .if1 .left, c .before .before .size .ensures .0))
+returns-3 c = (λ e. absurd (true-is-not-false (sym e)), λ _. omega (arith, c .before .before .if1 .left, c .before .before .before .size .ensures .0))
 
 pub is-short-spec : {M : Type 1} → statement M
-is-short-spec = tie.close (tie.spec size-requires returns falls-short-requires returns-2 returns-3)
+is-short-spec = tie.close (tie.spec size-requires returns is-asked-requires falls-short-requires returns-2 returns-3)

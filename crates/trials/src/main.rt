@@ -1,0 +1,48 @@
+// Runs the edge cases of document 01 that are not proved, and compares the lists with trying all sets for graphs of 1 to 16 vertices.
+// Prints a line for each group: how many cases it has, and how many of them differ. Where a list differs, its graph is printed as a sheet.
+mod all_sets;
+mod compare;
+mod graphs;
+mod lists;
+mod refusals;
+mod sheet;
+mod tally;
+mod words;
+
+// How many graphs of each number of vertices a group of pseudo-random ones has: ten of each density from 0 to 100 in steps of 5.
+const RANDOM: usize = 210;
+
+fn edge_cases() {
+    tally::print(b"accepted slack and floor", lists::ranges());
+    tally::print(b"all of 64 adjacent", lists::all_adjacent());
+    tally::print(b"floor above n, no slots", lists::none());
+    tally::print(b"refusals of the list", lists::refused());
+    tally::print(b"refusals of the judges", refusals::judged());
+    tally::print(b"refusals of core and reach", refusals::found());
+    tally::print(b"refusals of the bounds", refusals::bounded());
+    tally::print(b"sheets read", sheet::read());
+    tally::print(b"sheets written", sheet::written());
+}
+
+// Of the pseudo-random graphs the first of each size is empty.
+fn comparisons() {
+    tally::print(b"empty graphs", compare::group(graphs::RANDOM, 1));
+    tally::print(b"complete graphs", compare::group(graphs::COMPLETE, 1));
+    tally::print(b"rings", compare::group(graphs::RING, 1));
+    tally::print(b"paths", compare::group(graphs::PATH, 1));
+    tally::print(b"stars", compare::group(graphs::STAR, 1));
+    tally::print(
+        b"multipartite graphs",
+        compare::group(graphs::MULTIPARTITE, 4),
+    );
+    tally::print(b"disjoint unions", compare::group(graphs::UNION, 8));
+    tally::print(
+        b"pseudo-random graphs",
+        compare::group(graphs::RANDOM, RANDOM),
+    );
+}
+
+fn main() {
+    edge_cases();
+    comparisons();
+}
