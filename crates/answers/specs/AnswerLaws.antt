@@ -3,17 +3,14 @@ use Prim.Native.Nat.{ℕ, suc, _+_, _-_, _*_, _/_, _%_, _≤_}
 use native.Mathlib.Omega.{arith}
 use native.Mathlib.Nat.{le-of-eq}
 use mathlib.Core.Path.{_≡_, refl, sym, ap, ap₂, _∙_, subst}
-use mathlib.Core.Bool.{Bool, cond}
 use mathlib.Core.List.{List, [], _∷_, _++_, append-assoc, append-nil}
 use lib.ListN.{length, take, drop, set, replicate, length-append, length-drop, length-replicate, drop-of-length-le}
 use lib.Seq.{take-at, drop-at, drop-drop, length-take-le}
-use borrow.Author.Tests.{ltb-false, le-leb}
 use borrow.Rule.Slice.PartAt.{part-to-end}
 use Rattle.sets.specs.Words.{masks}
 use Rattle.sets.specs.Words.Operations.{count-masks, take-masks}
-use Rattle.judging.specs.Refusal.{Reply, refused, answered, firstOf, mostVertices}
-use Rattle.judging.specs.Calls.{refusal, numberOf, valueOf, passed, requestCheck}
-use Rattle.judging.specs.RefusalLaws.{first-passed, passed-front, passed-back, passed-head}
+use Rattle.judging.specs.Refusal.{Reply, refused, answered, mostVertices}
+use Rattle.judging.specs.Calls.{refusal, numberOf, valueOf}
 use Rattle.judging.specs.declared.Refusal.{Refusal}
 use Rattle.sheets.specs.Digits.{digits}
 use Rattle.sheets.specs.DigitLaws.{length-digits}
@@ -21,10 +18,10 @@ use Rattle.sheets.specs.Lines.{line, lines}
 use Rattle.sheets.specs.LineLaws.{length-line, length-lines}
 use Rattle.sheets.specs.Sheet.{Sheet, rowDigits, rowLength, reading, over, rowsAfter}
 use Rattle.sheets.specs.Calls.{Heading, heading, headingOf}
-use Rattle.sheets.specs.CauseLaws.{answered-passed}
 use Rattle.sheets.specs.Output.{letterR, blank, figureZero, decimals, listText, refusalText, replyText, listLength, refusalLength}
 use Rattle.search.specs.Listing.{listing}
-use Rattle.search.specs.Calls.{slotsCause, listReply, placed, afterCheck, slotsAfter}
+use Rattle.search.specs.Calls.{listReply, slotsAfter}
+use Rattle.search.specs.OutcomeLaws.{list-count, list-room, slots-list, slots-first}
 use Rattle.answers.specs.Answer.{withList, answerOf, slotsOf, answerText, slotsLeft, Writes, WritesList, Answers, Room}
 
 -- ---- what is written over the front of lent bytes
@@ -120,40 +117,23 @@ module _ (g : List ℕ) (k q : ℕ) (before : List ℕ) where
       record { written = subst (λ (x : Reply (Unit {0})). Writes (replyText (withList x (listing g k q))) old out r) e w; slots = s }
 
   module _ (m : ℕ) (e : answered m tt ≡ listReply g k q (length before)) where
-    all-passed : firstOf (requestCheck g k q ++ slotsCause (length before) (length (listing g k q)) ∷ []) passed ≡ passed
-    unfolding listReply
-    all-passed = answered-passed (requestCheck g k q ++ slotsCause (length before) (length (listing g k q)) ∷ []) (length (listing g k q)) m tt tt (sym e)
-
-    list-count : m ≡ length (listing g k q)
-    unfolding listReply
-    list-count =
-        let same : answered m tt ≡ answered (length (listing g k q)) tt =
-        e ∙ first-passed (requestCheck g k q ++ slotsCause (length before) (length (listing g k q)) ∷ []) (answered (length (listing g k q)) tt) all-passed in
-        cc
-
-    list-room : length (listing g k q) ≤ length before
-    unfolding slotsCause
-    list-room =
-        ltb-false (length before) (length (listing g k q))
-        (passed-head (slotsCause (length before) (length (listing g k q))) [] (passed-back (requestCheck g k q) (slotsCause (length before) (length (listing g k q)) ∷ []) all-passed))
-
     -- the words that are left in the slots
     module _ (ws : List ℕ) (s : masks ws ≡ slotsAfter g k q before) where
-      in-front : masks ws ≡ listing g k q ++ drop (length (listing g k q)) before
-      unfolding slotsAfter placed
-      in-front =
-          s
-          ∙ ap (λ (x : Reply (Unit {0})). afterCheck x (listing g k q) before) (passed-front (requestCheck g k q) (slotsCause (length before) (length (listing g k q)) ∷ []) all-passed)
-          ∙ ap (λ (b : Bool). cond b (listing g k q ++ drop (length (listing g k q)) before) (replicate (length before) 0)) (le-leb (length (listing g k q)) (length before) list-room)
-
       pub listed-fits : m ≤ length ws
-      listed-fits = omega (arith, list-count, count-masks ws, ap length in-front, length-append (listing g k q) (drop (length (listing g k q)) before))
+      listed-fits =
+          omega (
+            arith,
+            list-count g k q (length before) (sym e),
+            count-masks ws,
+            ap length (s ∙ slots-list g k q before (sym e)),
+            length-append (listing g k q) (drop m before),
+          )
 
       listed-front : masks (take m ws) ≡ listing g k q
-      listed-front = take-masks m ws ∙ ap (take m) in-front ∙ take-at (listing g k q) (drop (length (listing g k q)) before) m (sym list-count)
+      listed-front = take-masks m ws ∙ ap (take m) s ∙ slots-first g k q before (sym e)
 
       pub listed-few : length (masks (take m ws)) ≤ length before
-      listed-few = omega (arith, ap length listed-front, list-room)
+      listed-few = omega (arith, ap length listed-front, list-count g k q (length before) (sym e), list-room g k q (length before) (sym e))
 
       pub listed-out : (old out : List ℕ) (r : ℕ) → Writes (listText (masks (take m ws))) old out r → WritesList g k q before (masks ws) old out r
       listed-out old out r w =

@@ -18,3 +18,4 @@ pub mod SurveyLaws
 pub mod BucketLaws
 pub mod PreparedLaws
 pub mod BoundCallLaws
+pub mod OutcomeLaws

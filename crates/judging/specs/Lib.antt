@@ -10,3 +10,4 @@ pub mod ExtensionLaws
 pub mod RefusalLaws
 pub mod JudgeLaws
 pub mod CallLaws
+pub mod OutcomeLaws

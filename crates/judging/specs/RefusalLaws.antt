@@ -16,7 +16,7 @@ use Rattle.sets.specs.RangeLaws.{mem-range, any-intro, both, or-left, or-right,
 use Rattle.sets.specs.BitLaws.{bit-le}
 use Rattle.sets.specs.SubsetLaws.{has-in, in-has}
 use Rattle.judging.specs.Graph.{adjacent, Valid}
-use Rattle.judging.specs.Refusal.{Reply, refused, Cause, firstOf, mostVertices, mostSlack, outside, vertexCause, slackCause, floorCause, badRow, oneWay, lowestRow, rowCause, edgeCause, graphCauses, setCause, vertexOutCause}
+use Rattle.judging.specs.Refusal.{Reply, refused, answered, Cause, firstOf, mostVertices, mostSlack, outside, vertexCause, slackCause, floorCause, badRow, oneWay, lowestRow, rowCause, edgeCause, graphCauses, setCause, vertexOutCause}
 use Rattle.judging.specs.Calls.{passed, graphCheck, slackCheck, requestCheck, setCheck}
 use Rattle.judging.specs.Setting.{Sized, Judgeable}
 
@@ -62,6 +62,39 @@ module _ {A : Type 0} where
           → cond b (refused (c .number) (c .value)) (firstOf xs r) ≡ r
       go true q ih = absurd (let z : _≡_ {A = ℕ} 0 1 = cc in omega arith)
       go false q ih = ih q
+
+  -- a call that succeeds passed its checks, and a refusal does not hang on what a success would answer
+  pub answered-passed : (cs : List Cause) (v w : ℕ) (a b : A) → firstOf cs (answered v a) ≡ answered w b → firstOf cs passed ≡ passed
+  unfolding firstOf
+  answered-passed [] v w a b e = refl
+  answered-passed (c ∷ cs) v w a b e = go (c .holds) e (answered-passed cs v w a b)
+    where
+      go : (h : Bool) → cond h (refused (c .number) (c .value)) (firstOf cs (answered v a)) ≡ answered w b
+          → (firstOf cs (answered v a) ≡ answered w b → firstOf cs passed ≡ passed)
+          → cond h (refused (c .number) (c .value)) (firstOf cs passed) ≡ passed
+      go true q ih = let z : _≡_ {A = ℕ} 0 1 = cc in absurd (omega arith)
+      go false q ih = ih q
+
+  pub refused-passed : (cs : List Cause) (v m x : ℕ) (a : A) → firstOf cs (answered v a) ≡ refused m x → firstOf cs passed ≡ refused m x
+  unfolding firstOf
+  refused-passed [] v m x a e = let z : _≡_ {A = ℕ} 0 1 = cc in absurd (omega arith)
+  refused-passed (c ∷ cs) v m x a e = go (c .holds) e (refused-passed cs v m x a)
+    where
+      go : (h : Bool) → cond h (refused (c .number) (c .value)) (firstOf cs (answered v a)) ≡ refused m x
+          → (firstOf cs (answered v a) ≡ refused m x → firstOf cs passed ≡ refused m x)
+          → cond h (refused (c .number) (c .value)) (firstOf cs passed) ≡ refused m x
+      go true q ih = cc
+      go false q ih = ih q
+
+  -- a success answers what was to be answered
+  answered-same : (cs : List Cause) (v : ℕ) {w : ℕ} (a : A) {b : A} → firstOf cs (answered v a) ≡ answered w b → answered v a ≡ answered w b
+  answered-same cs v a e = sym (first-passed cs (answered v a) (answered-passed cs v _ a _ e)) ∙ e
+
+  pub answered-value : (cs : List Cause) (v : ℕ) {w : ℕ} (a : A) {b : A} → firstOf cs (answered v a) ≡ answered w b → w ≡ v
+  answered-value cs v a e = cc (answered-same cs v a e)
+
+  pub answered-found : (cs : List Cause) (v : ℕ) {w : ℕ} (a : A) {b : A} → firstOf cs (answered v a) ≡ answered w b → b ≡ a
+  answered-found cs v a e = cc (answered-same cs v a e)
 
 -- what passed has no cause that holds
 pub passed-head : (c : Cause) (cs : List Cause) → firstOf (c ∷ cs) passed ≡ passed → c .holds ≡ false

@@ -21,4 +21,5 @@ pub mod Calls
 pub mod Cliques
 pub mod CliqueEnds
 pub mod TopLaws
+pub mod OutcomeLaws
 pub mod Edges

@@ -161,48 +161,66 @@ module _ (g : List ℕ) (k q : ℕ) where
   unfolding slotsAfter
   refused-slots n v slots e = ap (λ (r : Reply (Unit {0})). afterCheck r (listing g k q) slots) (sym e)
 
-  module _ (e : firstOf (requestCheck g k q) passed ≡ passed) (before after : List ℕ) (m : ℕ) (x : Adds (2 ^ length g) (listed g k q) before 0 after m) where
-    counted : m ≡ length (listing g k q)
-    counted = listing-placed g k q before after m x .0
-
-    pub list-long : length after ≡ length before
-    list-long = adds-all (2 ^ length g) (listed g k q) before after m x .long
-
-    past : (room : ℕ) → listReply g k q room ≡ firstOf (slotsCause room (length (listing g k q)) ∷ []) (answered (length (listing g k q)) tt)
+  module _ (e : firstOf (requestCheck g k q) passed ≡ passed) where
+    -- of one that passes the slots are looked at next
+    passed-reply : (room : ℕ) → listReply g k q room ≡ firstOf (slotsCause room (length (listing g k q)) ∷ []) (answered (length (listing g k q)) tt)
     unfolding listReply
-    past room =
+    passed-reply room =
         first-append (requestCheck g k q) (slotsCause room (length (listing g k q)) ∷ []) (answered (length (listing g k q)) tt)
         ∙ first-passed (requestCheck g k q) (firstOf (slotsCause room (length (listing g k q)) ∷ []) (answered (length (listing g k q)) tt)) e
 
-    given : (slots : List ℕ) → placed (listing g k q) slots ≡ slotsAfter g k q slots
+    -- and then they are given the list
+    passed-slots : (slots : List ℕ) → placed (listing g k q) slots ≡ slotsAfter g k q slots
     unfolding slotsAfter
-    given slots = ap (λ (r : Reply (Unit {0})). afterCheck r (listing g k q) slots) (sym e)
+    passed-slots slots = ap (λ (r : Reply (Unit {0})). afterCheck r (listing g k q) slots) (sym e)
 
-    pub list-fits : m ≤ length before → answered m tt ≡ listReply g k q (length before)
+    pub reply-fits : (room : ℕ) → length (listing g k q) ≤ room → listReply g k q room ≡ answered (length (listing g k q)) tt
     unfolding slotsCause firstOf
-    list-fits l =
-        ap (λ (n : ℕ). answered n tt) counted
-        ∙ sym (past (length before) ∙ first-skips (slotsCause (length before) (length (listing g k q))) [] (answered (length (listing g k q)) tt) (le-ltb (length before) (length (listing g k q)) (omega (arith, counted))))
+    reply-fits room l =
+        let m = length (listing g k q) in
+        passed-reply room ∙ first-skips (slotsCause room m) [] (answered m tt) (le-ltb room m l)
 
-    pub list-slots : (part : List ℕ) → Sorts (take m after) part → m ≤ length before → part ++ drop m after ≡ slotsAfter g k q before
-    unfolding placed
-    list-slots part h l =
-        listing-sorted g k q before after part m x l h
-        ∙ ap (λ (n : ℕ). listing g k q ++ drop n before) counted
-        ∙ ap (λ (b : Bool). cond b (listing g k q ++ drop (length (listing g k q)) before) (replicate (length before) 0)) (sym (le-leb (length (listing g k q)) (length before) (omega (arith, counted))))
-        ∙ given before
-
-    pub list-short : length before < m → refused 6 m ≡ listReply g k q (length before)
+    pub reply-short : (room : ℕ) → room < length (listing g k q) → listReply g k q room ≡ refused 6 (length (listing g k q))
     unfolding slotsCause
-    list-short l =
-        ap (refused 6) counted
-        ∙ sym (past (length before) ∙ first-holds (slotsCause (length before) (length (listing g k q))) [] (answered (length (listing g k q)) tt) (lt-ltb (length before) (length (listing g k q)) (omega (arith, counted))))
+    reply-short room l =
+        let m = length (listing g k q) in
+        passed-reply room ∙ first-holds (slotsCause room m) [] (answered m tt) (lt-ltb room m l)
 
-    pub list-cleared : length before < m → replicate (length before) 0 ≡ slotsAfter g k q before
+    pub slots-fit : (slots : List ℕ) → length (listing g k q) ≤ length slots → listing g k q ++ drop (length (listing g k q)) slots ≡ slotsAfter g k q slots
     unfolding placed
-    list-cleared l =
-        ap (λ (b : Bool). cond b (listing g k q ++ drop (length (listing g k q)) before) (replicate (length before) 0)) (sym (lt-leb (length (listing g k q)) (length before) (omega (arith, counted))))
-        ∙ given before
+    slots-fit slots l =
+        let list = listing g k q in
+        ap (λ (b : Bool). cond b (list ++ drop (length list) slots) (replicate (length slots) 0)) (sym (le-leb (length list) (length slots) l))
+        ∙ passed-slots slots
+
+    pub slots-short : (slots : List ℕ) → length slots < length (listing g k q) → replicate (length slots) 0 ≡ slotsAfter g k q slots
+    unfolding placed
+    slots-short slots l =
+        let list = listing g k q in
+        ap (λ (b : Bool). cond b (list ++ drop (length list) slots) (replicate (length slots) 0)) (sym (lt-leb (length list) (length slots) l))
+        ∙ passed-slots slots
+
+    module _ (before after : List ℕ) (m : ℕ) (x : Adds (2 ^ length g) (listed g k q) before 0 after m) where
+      counted : m ≡ length (listing g k q)
+      counted = listing-placed g k q before after m x .0
+
+      pub list-long : length after ≡ length before
+      list-long = adds-all (2 ^ length g) (listed g k q) before after m x .long
+
+      pub list-fits : m ≤ length before → answered m tt ≡ listReply g k q (length before)
+      list-fits l = ap (λ (n : ℕ). answered n tt) counted ∙ sym (reply-fits (length before) (omega (arith, counted)))
+
+      pub list-slots : (part : List ℕ) → Sorts (take m after) part → m ≤ length before → part ++ drop m after ≡ slotsAfter g k q before
+      list-slots part h l =
+          listing-sorted g k q before after part m x l h
+          ∙ ap (λ (n : ℕ). listing g k q ++ drop n before) counted
+          ∙ slots-fit before (omega (arith, counted))
+
+      pub list-short : length before < m → refused 6 m ≡ listReply g k q (length before)
+      list-short l = ap (refused 6) counted ∙ sym (reply-short (length before) (omega (arith, counted)))
+
+      pub list-cleared : length before < m → replicate (length before) 0 ≡ slotsAfter g k q before
+      list-cleared l = slots-short before (omega (arith, counted))
 
 -- ---- the start for slack 1, by a pivot
 

@@ -7,10 +7,10 @@ pub mod Calls
 pub mod Setting
 pub mod DigitLaws
 pub mod LineLaws
-pub mod CauseLaws
 pub mod SheetLaws
 pub mod HeadingLaws
 pub mod BodyLaws
 pub mod ReadLaws
 pub mod WriteLaws
+pub mod OutcomeLaws
 pub mod Examples

@@ -11,7 +11,7 @@ use Rattle.sets.specs.Words.{width, masks}
 use Rattle.sets.specs.Words.Operations.{count-masks, drop-masks, append-masks}
 use Rattle.judging.specs.Refusal.{Reply, answered, firstOf, mostVertices, vertexCause, slackCause, floorCause}
 use Rattle.judging.specs.Calls.{passed, checkedReply, numberOf, valueOf, refusal}
-use Rattle.judging.specs.RefusalLaws.{first-append, first-holds, first-skips, first-refused, first-passed, passed-head, passed-tail, within-range}
+use Rattle.judging.specs.RefusalLaws.{first-append, first-holds, first-skips, first-refused, first-passed, answered-passed, refused-passed, passed-head, passed-tail, within-range}
 use Rattle.judging.specs.CallLaws.{check-failed, check-passed}
 use Rattle.judging.specs.declared.Refusal.{Refusal}
 use Rattle.judging.specs.declared.Refusal.the-variants.{Room}
@@ -21,7 +21,6 @@ use Rattle.judging.specs.declared.Request.{Request}
 use Rattle.sheets.specs.Lines.{isLine, numbers}
 use Rattle.sheets.specs.Sheet.{headingDigits, headingLength, rowDigits, vertexField, slackField, floorField, body, Sheet, sheet, sheetOf, headingCause, roomCause, headingCauses, bodyCauses, reading, over, rowsAfter}
 use Rattle.sheets.specs.Calls.{Heading, heading, headingIn, headingOf, readReply, ReadSheet}
-use Rattle.sheets.specs.CauseLaws.{answered-passed, refused-passed}
 use Rattle.sheets.specs.declared.SheetRead.{SheetRead}
 use Rattle.sheets.specs.declared.SheetRead.the-variants.{Read, Refused}
 use Rattle.sheets.specs.Setting.{HeadingRead}

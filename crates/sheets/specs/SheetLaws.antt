@@ -14,15 +14,14 @@ use Rattle.sets.specs.Ranges.{all}
 use Rattle.sets.specs.RangeLaws.{true-holds}
 use Rattle.sets.specs.Graph.{row}
 use Rattle.sets.specs.Words.{width}
-use Rattle.judging.specs.Refusal.{Reply, answered, Cause, firstOf, vertexCause, slackCause, floorCause, graphCauses}
+use Rattle.judging.specs.Refusal.{answered, Cause, firstOf, vertexCause, slackCause, floorCause, graphCauses}
 use Rattle.judging.specs.Calls.{passed, requestCheck}
-use Rattle.judging.specs.RefusalLaws.{first-append, first-skips, first-passed, passed-head, passed-front, passed-back, graph-sized, graph-checked, slack-accepted, slack-graph, request-slack, floor-accepted}
+use Rattle.judging.specs.RefusalLaws.{first-append, first-skips, first-passed, answered-passed, answered-found, passed-head, passed-front, passed-back, graph-sized, graph-checked, slack-accepted, slack-graph, request-slack, floor-accepted}
 use Rattle.sheets.specs.Digits.{isDigit, digits, number}
 use Rattle.sheets.specs.Lines.{newline, line, lines, isLine, field, rightLines, numbers}
 use Rattle.sheets.specs.Sheet.{headingDigits, rowDigits, rowLength, sheetLength, headingText, sheetText, vertexField, slackField, floorField, body, Sheet, sheet, sheetOf, headingCause, rowsCause, roomCause, headingCauses, bodyCauses, reading, writing}
 use Rattle.sheets.specs.DigitLaws.{length-digits, all-digits, all-append, all-front, all-back, number-digits, digits-number}
 use Rattle.sheets.specs.LineLaws.{line-first, line-drop, line-right, right-digits, right-fits, right-line, right-lines, length-lines, lines-right, lines-numbers, length-numbers, right-most}
-use Rattle.sheets.specs.CauseLaws.{answered-passed}
 
 -- ---- fields
 
@@ -82,19 +81,27 @@ after-heading t room =
     vertexCause (vertexField t) ∷ slackCause (slackField t) ∷ floorCause (slackField t) (floorField t)
     ∷ bodyCauses (vertexField t) (body t) ++ roomCause room (vertexField t) ∷ []
 
+-- of a text that is read none of the causes holds, and it says what is answered
+module _ (t : List ℕ) (room : ℕ) {v : ℕ} {s : Sheet} (e : reading t room ≡ answered v s) where
+  pub read-passed : firstOf (headingCauses t ++ (bodyCauses (vertexField t) (body t) ++ roomCause room (vertexField t) ∷ [])) passed ≡ passed
+  unfolding reading
+  read-passed = answered-passed (headingCauses t ++ (bodyCauses (vertexField t) (body t) ++ roomCause room (vertexField t) ∷ [])) 0 v (sheetOf t) s e
+
+  pub read-answer : s ≡ sheetOf t
+  unfolding reading
+  read-answer = answered-found (headingCauses t ++ (bodyCauses (vertexField t) (body t) ++ roomCause room (vertexField t) ∷ [])) 0 (sheetOf t) e
+
 pub read-back : (t : List ℕ) (room v : ℕ) (s : Sheet) → reading t room ≡ answered v s → t ≡ sheetText (s .rows) (s .slack) (s .floor)
-unfolding reading headingCauses bodyCauses headingCause sheetText sheetOf
+unfolding headingCauses bodyCauses headingCause sheetText sheetOf
 read-back t room v s e =
     let after = bodyCauses (vertexField t) (body t) ++ roomCause room (vertexField t) ∷ [] in
-    let p = answered-passed (headingCauses t ++ after) 0 v (sheetOf t) s e in
-    let q : _≡_ {A = Reply Sheet} (answered 0 (sheetOf t)) (answered v s) = sym (first-passed (headingCauses t ++ after) (answered 0 (sheetOf t)) p) ∙ e in
-    let same : sheetOf t ≡ s = cc in
+    let p = read-passed t room e in
     heading-back t (not-false (isLine headingDigits t) (passed-head (headingCause t) (after-heading t room) p))
     ∙ ap (λ (l : List ℕ). headingText (vertexField t) (slackField t) (floorField t) ++ l)
     (rows-back (vertexField t) (body t) (passed-head (rowsCause (vertexField t) (body t)) (graphCauses (numbers rowDigits (vertexField t) (body t)) ++ roomCause room (vertexField t) ∷ [])
     (passed-back (headingCauses t) after p)))
     ∙ ap (λ (n : ℕ). headingText n (slackField t) (floorField t) ++ lines rowDigits (numbers rowDigits (vertexField t) (body t))) (sym (length-numbers rowDigits (vertexField t) (body t)))
-    ∙ ap (λ (x : Sheet). sheetText (x .rows) (x .slack) (x .floor)) same
+    ∙ ap (λ (x : Sheet). sheetText (x .rows) (x .slack) (x .floor)) (sym (read-answer t room e))
 
 -- ---- what was written reads back as it was
 

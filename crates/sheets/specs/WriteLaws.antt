@@ -11,8 +11,8 @@ use lib.Seq.{drop-drop, take-at, drop-at}
 use Rattle.sets.specs.Words.{width}
 use Rattle.judging.specs.Refusal.{Reply, answered, firstOf}
 use Rattle.judging.specs.Calls.{passed, checkedReply, requestCheck, refusal}
-use Rattle.judging.specs.RefusalLaws.{first-append, first-holds, first-skips, graph-sized, slack-graph, request-slack}
-use Rattle.judging.specs.CallLaws.{check-failed, check-passed, none-holds}
+use Rattle.judging.specs.RefusalLaws.{first-append, first-holds, first-skips, first-passed, graph-sized, slack-graph, request-slack}
+use Rattle.judging.specs.CallLaws.{check-failed, none-holds}
 use Rattle.judging.specs.declared.Refusal.{Refusal}
 use Rattle.judging.specs.declared.Refusal.the-variants.{Room}
 use Rattle.judging.specs.declared.Checked.{Checked}
@@ -49,26 +49,44 @@ sheet-filled g k q t u p a b =
     ∙ sym (append-assoc first (lines rowDigits g) rest)
     ∙ ap (λ (v : List ℕ). first ++ lines rowDigits g ++ v) (drop-drop (length g * rowLength) headingLength t ∙ ap (λ (m : ℕ). drop m t) (sym (length-sheet g k q)))
 
-module _ (g : List ℕ) (k q : ℕ) (t : List ℕ) where
-  writing-rest : writing g k q (length t) ≡ firstOf (requestCheck g k q) (firstOf (roomCause (length t) (sheetLength (length g)) ∷ []) (answered (sheetLength (length g)) tt))
-  unfolding writing
-  writing-rest = first-append (requestCheck g k q) (roomCause (length t) (sheetLength (length g)) ∷ []) (answered (sheetLength (length g)) tt)
+-- the room is looked at after the request
+writing-rest : (g : List ℕ) (k q bytes : ℕ)
+    → writing g k q bytes ≡ firstOf (requestCheck g k q) (firstOf (roomCause bytes (sheetLength (length g)) ∷ []) (answered (sheetLength (length g)) tt))
+unfolding writing
+writing-rest g k q bytes = first-append (requestCheck g k q) (roomCause bytes (sheetLength (length g)) ∷ []) (answered (sheetLength (length g)) tt)
 
+-- a request that is accepted is written where there is room
+pub accepted-writes : (g : List ℕ) (k q bytes : ℕ) → firstOf (requestCheck g k q) passed ≡ passed → sheetLength (length g) ≤ bytes
+    → writing g k q bytes ≡ answered (sheetLength (length g)) tt
+unfolding roomCause firstOf
+accepted-writes g k q bytes e l =
+    let needed = sheetLength (length g) in
+    writing-rest g k q bytes
+    ∙ first-passed (requestCheck g k q) (firstOf (roomCause bytes needed ∷ []) (answered needed tt)) e
+    ∙ first-skips (roomCause bytes needed) [] (answered needed tt) (le-ltb bytes needed l)
+
+module _ (g : List ℕ) (k q : ℕ) (t : List ℕ) where
   not-written : (f : Refusal) → writing g k q (length t) ≡ refusal f → WroteSheet g k q t t (writes.Refused f)
   not-written f e = record { reply = sym e; text = sym (ap (λ (x : Reply (Unit {0})). textAfter x (sheetText g k q) t) e) }
 
   module _ (r : Checked) (e : checkedReply r ≡ firstOf (requestCheck g k q) passed) where
     pub write-refused : (f : Refusal) → r ≡ Failed f → WroteSheet g k q t t (writes.Refused f)
     write-refused f p =
-        not-written f (writing-rest ∙ sym (check-failed (requestCheck g k q) r e f (firstOf (roomCause (length t) (sheetLength (length g)) ∷ []) (answered (sheetLength (length g)) tt)) p))
+        let needed = sheetLength (length g) in
+        let last = firstOf (roomCause (length t) needed ∷ []) (answered needed tt) in
+        not-written f (writing-rest g k q (length t) ∙ sym (check-failed (requestCheck g k q) r e f last p))
 
     pub write-sized : r ≡ Passed → length g ≤ width
     write-sized p = graph-sized g (slack-graph g k (request-slack g k q (none-holds (requestCheck g k q) r e p))) .most
 
     module _ (p : r ≡ Passed) (n : ℕ) (c : n ≡ length g) where
+      accepted : firstOf (requestCheck g k q) passed ≡ passed
+      accepted = none-holds (requestCheck g k q) r e p
+
       room-left-to-write : writing g k q (length t) ≡ firstOf (roomCause (length t) (sheetLength n) ∷ []) (answered (sheetLength n) tt)
       room-left-to-write =
-          writing-rest ∙ check-passed (requestCheck g k q) r e (firstOf (roomCause (length t) (sheetLength (length g)) ∷ []) (answered (sheetLength (length g)) tt)) p
+          writing-rest g k q (length t)
+          ∙ first-passed (requestCheck g k q) (firstOf (roomCause (length t) (sheetLength (length g)) ∷ []) (answered (sheetLength (length g)) tt)) accepted
           ∙ ap (λ (m : ℕ). firstOf (roomCause (length t) (sheetLength m) ∷ []) (answered (sheetLength m) tt)) (sym c)
 
       pub text-refused : length t < sheetLength n → WroteSheet g k q t t (writes.Refused (Room (sheetLength n)))
@@ -80,7 +98,7 @@ module _ (g : List ℕ) (k q : ℕ) (t : List ℕ) where
       pub text-written : (u p : List ℕ) → sheetLength n ≤ length t → u ≡ headingText n k q ++ drop headingLength t
           → p ≡ lines rowDigits g ++ drop (length g * rowLength) (take (length u - headingLength) (drop headingLength u))
           → WroteSheet g k q t (take headingLength u ++ (p ++ drop (length u - headingLength) (drop headingLength u))) (writes.Written (sheetLength n))
-      unfolding roomCause firstOf over
+      unfolding over
       text-written u p l a b =
-          let answer = room-left-to-write ∙ first-skips (roomCause (length t) (sheetLength n)) [] (answered (sheetLength n) tt) (le-ltb (length t) (sheetLength n) l) in
+          let answer = accepted-writes g k q (length t) accepted (omega (arith, c)) ∙ ap (λ (m : ℕ). answered (sheetLength m) tt) (sym c) in
           record { reply = sym answer; text = sheet-filled g k q t u p (a ∙ ap (λ (m : ℕ). headingText m k q ++ drop headingLength t) c) b ∙ sym (ap (λ (x : Reply (Unit {0})). textAfter x (sheetText g k q) t) answer) }

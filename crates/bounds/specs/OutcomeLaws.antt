@@ -1,0 +1,133 @@
+-- What an accepted answer of this crate's calls means: which sets lie in a core or a reach, and which plexes a bound is not below. A call that succeeds
+-- passed its checks, so that the laws of what it answers hold of its input.
+use Prim.Native.Nat.{ℕ, _+_, _*_, _-_, _^_, _≤_, _<_}
+use native.Mathlib.Omega.{arith}
+use mathlib.Core.Path.{_≡_, sym, subst}
+use mathlib.Core.List.{List, [], _∷_}
+use lib.Bits.{bitOr}
+use lib.ListN.{length}
+use Rattle.sets.specs.Set.{In, Sub, size, with}
+use Rattle.sets.specs.SubsetLaws.{sub-with, sub-trans, in-of-sub, with-same}
+use Rattle.judging.specs.Graph.{Valid}
+use Rattle.judging.specs.Plex.{Plex}
+use Rattle.judging.specs.Refusal.{answered, firstOf, vertexOutCause}
+use Rattle.judging.specs.Calls.{graphCheck, requestCheck}
+use Rattle.judging.specs.RefusalLaws.{answered-passed, answered-value, answered-found, passed-front, graph-checked}
+use Rattle.bounds.specs.Core.{Dense, core}
+use Rattle.bounds.specs.Reach.{reach}
+use Rattle.bounds.specs.Bound.{firstBound, secondBound, largest}
+use Rattle.bounds.specs.Calls.{coreReply, reachCheck, reachReply}
+use Rattle.bounds.specs.BoundCalls.{boundCheck, firstBoundReply, secondBoundReply}
+use Rattle.bounds.specs.BoundSetting.{Boundable}
+use Rattle.bounds.specs.CoreLaws.{core-below, core-holds, core-dense, plex-core}
+use Rattle.bounds.specs.ReachLaws.{plex-reach}
+use Rattle.bounds.specs.BoundLaws.{second-first}
+use Rattle.bounds.specs.BoundSound.{second-sound, first-largest, second-largest}
+use Rattle.bounds.specs.BoundCallLaws.{bound-checked}
+
+-- ---- the core
+
+module _ (g : List ℕ) (k q : ℕ) {v c : ℕ} (e : coreReply g k q ≡ answered v c) where
+  pub core-value : v ≡ 0
+  unfolding coreReply
+  core-value = answered-value (requestCheck g k q) 0 (core g (q - k)) e
+
+  pub core-answer : c ≡ core g (q - k)
+  unfolding coreReply
+  core-answer = answered-found (requestCheck g k q) 0 (core g (q - k)) e
+
+  -- it is a set of vertices in which each is adjacent to at least q - k members
+  pub core-in-graph : c < 2 ^ length g
+  core-in-graph = subst (λ (x : ℕ). x < 2 ^ length g) (sym core-answer) (core-below g (q - k))
+
+  pub core-is-dense : Dense g (q - k) c
+  core-is-dense = subst (Dense g (q - k)) (sym core-answer) (core-dense g (q - k))
+
+  -- the largest one
+  pub core-holds-dense : (s : ℕ) → s < 2 ^ length g → Dense g (q - k) s → Sub s c
+  core-holds-dense s b d = subst (Sub s) (sym core-answer) (core-holds g (q - k) s b d)
+
+  -- so no k-plex of q or more members has a vertex outside it
+  pub core-holds-plexes : (s : ℕ) → s < 2 ^ length g → Plex g k s → q ≤ size s → Sub s c
+  core-holds-plexes s b p l = subst (Sub s) (sym core-answer) (plex-core g k q s b p l)
+
+-- ---- the reach
+
+module _ (g : List ℕ) (v : ℕ) {x r : ℕ} (e : reachReply g v ≡ answered x r) where
+  pub reach-value : x ≡ 0
+  unfolding reachReply
+  reach-value = answered-value (reachCheck g v) 0 (reach g v) e
+
+  pub reach-answer : r ≡ reach g v
+  unfolding reachReply
+  reach-answer = answered-found (reachCheck g v) 0 (reach g v) e
+
+  valid : Valid g
+  unfolding reachReply reachCheck
+  valid = graph-checked g (passed-front (graphCheck g) (vertexOutCause g v ∷ []) (answered-passed (reachCheck g v) 0 x (reach g v) r e))
+
+  -- no k-plex of 2k - 1 or more members that holds the vertex has one outside its reach
+  pub reach-holds-plexes : (k s : ℕ) → s < 2 ^ length g → Plex g k s → 2 * k ≤ size s + 1 → In v s → Sub s r
+  reach-holds-plexes k s b p l i = subst (Sub s) (sym reach-answer) (plex-reach g k s v valid b p l i)
+
+-- ---- the bounds
+
+module _ (g : List ℕ) (k s c v : ℕ) where
+  -- an input of which a bound n is answered
+  bounded : (n : ℕ) {x b : ℕ} → firstOf (boundCheck g k s c v) (answered 0 n) ≡ answered x b → Boundable g k s c v
+  bounded n e = bound-checked g k s c v (answered-passed (boundCheck g k s c v) 0 _ n _ e)
+
+  -- no plex that holds s and v and has no vertex outside s and c is larger than the second bound
+  second-most : Boundable g k s c v → (m : ℕ) → m < 2 ^ length g → Plex g k m → Sub (with s v) m → Sub m (bitOr s c) → size m ≤ secondBound g k s c v
+  second-most a m l p w u =
+      second-sound g k s c v m (a .valid) (a .supported .inside .below) l p (sub-trans s (with s v) m (sub-with s v) w)
+      (in-of-sub (with s v) m v w (with-same s v)) u (a .apart)
+
+  second-least : Boundable g k s c v → secondBound g k s c v ≤ firstBound g k s c v
+  second-least a = second-first g s (a .supported .inside .below) k c v
+
+  module _ {x b : ℕ} (e : secondBoundReply g k s c v ≡ answered x b) where
+    pub second-value : x ≡ 0
+    unfolding secondBoundReply
+    second-value = answered-value (boundCheck g k s c v) 0 (secondBound g k s c v) e
+
+    pub second-answer : b ≡ secondBound g k s c v
+    unfolding secondBoundReply
+    second-answer = answered-found (boundCheck g k s c v) 0 (secondBound g k s c v) e
+
+    second-bounded : Boundable g k s c v
+    unfolding secondBoundReply
+    second-bounded = bounded (secondBound g k s c v) e
+
+    pub second-above-plexes : (m : ℕ) → m < 2 ^ length g → Plex g k m → Sub (with s v) m → Sub m (bitOr s c) → size m ≤ b
+    second-above-plexes m l p w u = omega (arith, second-answer, second-most second-bounded m l p w u)
+
+    pub second-above-largest : largest g k s c v ≤ b
+    second-above-largest =
+        let a = second-bounded in
+        omega (arith, second-answer, second-largest g k s c v (a .valid) (a .supported .inside .below) (a .apart))
+
+  module _ {x b : ℕ} (e : firstBoundReply g k s c v ≡ answered x b) where
+    pub first-value : x ≡ 0
+    unfolding firstBoundReply
+    first-value = answered-value (boundCheck g k s c v) 0 (firstBound g k s c v) e
+
+    pub first-answer : b ≡ firstBound g k s c v
+    unfolding firstBoundReply
+    first-answer = answered-found (boundCheck g k s c v) 0 (firstBound g k s c v) e
+
+    first-bounded : Boundable g k s c v
+    unfolding firstBoundReply
+    first-bounded = bounded (firstBound g k s c v) e
+
+    pub first-above-plexes : (m : ℕ) → m < 2 ^ length g → Plex g k m → Sub (with s v) m → Sub m (bitOr s c) → size m ≤ b
+    first-above-plexes m l p w u = omega (arith, first-answer, second-most first-bounded m l p w u, second-least first-bounded)
+
+    pub first-above-largest : largest g k s c v ≤ b
+    first-above-largest =
+        let a = first-bounded in
+        omega (arith, first-answer, first-largest g k s c v (a .valid) (a .supported .inside .below) (a .apart))
+
+    -- the second bound never exceeds the first
+    pub second-within-first : {y d : ℕ} → secondBoundReply g k s c v ≡ answered y d → d ≤ b
+    second-within-first f = omega (arith, first-answer, second-answer f, second-least first-bounded)

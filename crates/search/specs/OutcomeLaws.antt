@@ -1,0 +1,150 @@
+-- What the answer of the call that lists means. An accepted request leaves the list in the slots, or 0 in all of them where it does not fit; where m is 0
+-- every number of slots will do. Refusals of the request have the numbers 1 to 5, so number 6 comes from a request that passed its checks.
+use Prim.Native.Nat.{ℕ, _≤_, _<_}
+use native.Mathlib.Omega.{arith}
+use native.Mathlib.Decide.{decLt}
+use mathlib.Core.Path.{_≡_, refl, sym, ap, _∙_, subst}
+use mathlib.Core.Bool.{Bool, true, false, not, _&&_, cond}
+use mathlib.Core.List.{List, [], _∷_, _++_, List·Memᴰ·not-nil}
+use lib.Dec.{T, eqb, eqb-refl, T-not}
+use lib.ListN.{length, take, drop, replicate}
+use lib.Seq.{take-at, drop-at, drop-length}
+use borrow.Author.Tests.{ltb-false}
+use Rattle.sets.specs.RangeLaws.{Mem, and-left, and-right}
+use Rattle.judging.specs.Refusal.{Reply, refused, answered, Cause, firstOf, vertexCause, slackCause, floorCause, rowCause, edgeCause, graphCauses}
+use Rattle.judging.specs.Calls.{passed, requestCheck}
+use Rattle.judging.specs.RefusalLaws.{first-append, answered-passed, answered-value, passed-front, passed-back, passed-head}
+use Rattle.search.specs.Listing.{listing, Listed}
+use Rattle.search.specs.KeepLaws.{Rising}
+use Rattle.search.specs.ListingLaws.{listing-rising, listing-sound, listing-complete, floor-above}
+use Rattle.search.specs.Calls.{slotsCause, listReply, slotsAfter}
+use Rattle.search.specs.TopLaws.{reply-fits, reply-short, slots-fit, slots-short}
+
+-- ---- a refusal whose number is none of a check's
+
+lacks : ℕ → List Cause → Bool
+lacks n [] = true
+lacks n (c ∷ cs) = not (eqb (c .number) n) && lacks n cs
+
+other-number : {A : Type 0} (cs : List Cause) (r : Reply A) {n v : ℕ} → T (lacks n cs) → firstOf cs r ≡ refused n v → firstOf cs passed ≡ passed
+unfolding firstOf lacks
+other-number [] r o e = refl
+other-number (c ∷ cs) r {n} {v} o e = go (c .holds) e (other-number cs r (and-right (not (eqb (c .number) n)) (lacks n cs) o))
+  where
+    go : (h : Bool) → cond h (refused (c .number) (c .value)) (firstOf cs r) ≡ refused n v → (firstOf cs r ≡ refused n v → firstOf cs passed ≡ passed)
+        → cond h (refused (c .number) (c .value)) (firstOf cs passed) ≡ passed
+    go true q ih =
+        let same : c .number ≡ n = cc in
+        absurd (T-not (eqb (c .number) n) (and-left (not (eqb (c .number) n)) (lacks n cs) o)
+        (subst (λ (x : ℕ). T (eqb (c .number) x)) same (eqb-refl (c .number))))
+    go false q ih = ih q
+
+module _ (g : List ℕ) (k q : ℕ) where
+  -- ---- m is answered
+
+  module _ (room : ℕ) {m : ℕ} (e : listReply g k q room ≡ answered m tt) where
+    none-held : firstOf (requestCheck g k q ++ slotsCause room (length (listing g k q)) ∷ []) passed ≡ passed
+    unfolding listReply
+    none-held = answered-passed (requestCheck g k q ++ slotsCause room (length (listing g k q)) ∷ []) (length (listing g k q)) m tt tt e
+
+    pub list-accepted : firstOf (requestCheck g k q) passed ≡ passed
+    list-accepted = passed-front (requestCheck g k q) (slotsCause room (length (listing g k q)) ∷ []) none-held
+
+    pub list-count : m ≡ length (listing g k q)
+    unfolding listReply
+    list-count = answered-value (requestCheck g k q ++ slotsCause room (length (listing g k q)) ∷ []) (length (listing g k q)) tt e
+
+    pub list-room : m ≤ room
+    unfolding slotsCause
+    list-room =
+        let cause = slotsCause room (length (listing g k q)) in
+        omega (arith, list-count, ltb-false room (length (listing g k q)) (passed-head cause [] (passed-back (requestCheck g k q) (cause ∷ []) none-held)))
+
+  -- the first m slots hold the list, and the others keep what they held
+  module _ (slots : List ℕ) {m : ℕ} (e : listReply g k q (length slots) ≡ answered m tt) where
+    pub slots-list : slotsAfter g k q slots ≡ listing g k q ++ drop m slots
+    slots-list =
+        let n = list-count (length slots) e in
+        sym (slots-fit g k q (list-accepted (length slots) e) slots (omega (arith, n, list-room (length slots) e)))
+        ∙ ap (λ (x : ℕ). listing g k q ++ drop x slots) (sym n)
+
+    pub slots-first : take m (slotsAfter g k q slots) ≡ listing g k q
+    slots-first = ap (take m) slots-list ∙ take-at (listing g k q) (drop m slots) m (sym (list-count (length slots) e))
+
+    pub slots-others : drop m (slotsAfter g k q slots) ≡ drop m slots
+    slots-others = ap (drop m) slots-list ∙ drop-at (listing g k q) (drop m slots) m (sym (list-count (length slots) e))
+
+    -- each maximal k-plex of at least q members is in one of the first m slots, nothing else is, and they rise
+    pub first-listed : (s : ℕ) → Mem s (take m (slotsAfter g k q slots)) → Listed g k q s
+    first-listed s h = listing-sound g k q s (subst (Mem s) slots-first h)
+
+    pub listed-first : (s : ℕ) → Listed g k q s → Mem s (take m (slotsAfter g k q slots))
+    listed-first s h = subst (Mem s) (sym slots-first) (listing-complete g k q s h)
+
+    pub first-rising : Rising 0 (take m (slotsAfter g k q slots))
+    first-rising = subst (Rising 0) (sym slots-first) (listing-rising g k q)
+
+  -- ---- number 6
+
+  module _ (slots : List ℕ) {m : ℕ} (e : listReply g k q (length slots) ≡ refused 6 m) where
+    pub short-accepted : firstOf (requestCheck g k q) passed ≡ passed
+    unfolding listReply requestCheck graphCauses vertexCause slackCause floorCause rowCause edgeCause lacks
+    short-accepted =
+        let n = length (listing g k q) in
+        let last = slotsCause (length slots) n ∷ [] in
+        other-number (requestCheck g k q) (firstOf last (answered n tt)) tt (sym (first-append (requestCheck g k q) last (answered n tt)) ∙ e)
+
+    short : (m ≡ length (listing g k q)) × (length slots < m)
+    short = go (decLt (length slots) (length (listing g k q)))
+      where
+        go : Dec (length slots < length (listing g k q)) → (m ≡ length (listing g k q)) × (length slots < m)
+        go (yes l) =
+            let f = reply-short g k q short-accepted (length slots) l in
+            let n : m ≡ length (listing g k q) = cc in
+            (n, omega arith)
+        go (no l) =
+            let f = reply-fits g k q short-accepted (length slots) (omega arith) in
+            let z : _≡_ {A = ℕ} 0 1 = cc in
+            absurd (omega arith)
+
+    pub short-count : m ≡ length (listing g k q)
+    short-count = short .0
+
+    pub short-room : length slots < m
+    short-room = short .1
+
+    pub short-slots : slotsAfter g k q slots ≡ replicate (length slots) 0
+    short-slots = sym (slots-short g k q short-accepted slots (omega (arith, short)))
+
+  -- ---- m is 0: any number of slots is accepted, none included, and they are left
+
+  module _ (e : firstOf (requestCheck g k q) passed ≡ passed) (none : listing g k q ≡ []) where
+    zero : length (listing g k q) ≡ 0
+    zero = ap length none
+
+    pub none-reply : (room : ℕ) → listReply g k q room ≡ answered 0 tt
+    none-reply room = reply-fits g k q e room (omega (arith, zero)) ∙ ap (λ (n : ℕ). answered n tt) zero
+
+    pub none-slots : (slots : List ℕ) → slotsAfter g k q slots ≡ slots
+    none-slots slots = sym (slots-fit g k q e slots (omega (arith, zero))) ∙ ap (λ (l : List ℕ). l ++ drop (length l) slots) none
+
+  module _ (room : ℕ) (e : listReply g k q room ≡ answered 0 tt) where
+    pub zero-none : listing g k q ≡ []
+    zero-none = ap (λ (n : ℕ). drop n (listing g k q)) (list-count room e) ∙ drop-length (listing g k q)
+
+    pub zero-unlisted : (s : ℕ) → Listed g k q s → ⊥
+    zero-unlisted s h = List·Memᴰ·not-nil (subst (Mem s) zero-none (listing-complete g k q s h))
+
+    pub zero-reply : (other : ℕ) → listReply g k q other ≡ answered 0 tt
+    zero-reply = none-reply (list-accepted room e) zero-none
+
+    pub zero-slots : (slots : List ℕ) → slotsAfter g k q slots ≡ slots
+    zero-slots = none-slots (list-accepted room e) zero-none
+
+  -- so it is where the floor is above n
+  module _ (e : firstOf (requestCheck g k q) passed ≡ passed) (l : length g < q) where
+    pub floor-above-reply : (room : ℕ) → listReply g k q room ≡ answered 0 tt
+    floor-above-reply = none-reply e (floor-above g k q l)
+
+    pub floor-above-slots : (slots : List ℕ) → slotsAfter g k q slots ≡ slots
+    floor-above-slots = none-slots e (floor-above g k q l)
