@@ -19,7 +19,7 @@ use Rattle.sheets.specs.LineLaws.{length-line, length-lines}
 use Rattle.sheets.specs.Sheet.{Sheet, rowDigits, rowLength, reading, over, rowsAfter}
 use Rattle.sheets.specs.Calls.{Heading, heading, headingOf}
 use Rattle.sheets.specs.Output.{letterR, blank, figureZero, decimals, listText, refusalText, replyText, listLength, refusalLength}
-use Rattle.search.specs.Listing.{listing}
+use Rattle.lists.specs.Listing.{listing}
 use Rattle.search.specs.Calls.{listReply, slotsAfter}
 use Rattle.search.specs.OutcomeLaws.{list-count, list-room, slots-list, slots-first}
 use Rattle.answers.specs.Answer.{withList, answerOf, slotsOf, answerText, slotsLeft, Writes, WritesList, Answers, Room}

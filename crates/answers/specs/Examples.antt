@@ -15,7 +15,7 @@ use Rattle.sheets.specs.Lines.{line, lines, isLine, field, rightLines, numbers}
 use Rattle.sheets.specs.Sheet.{sheetOf, headingCause, rowsCause, roomCause, headingCauses, bodyCauses, reading}
 use Rattle.sheets.specs.Output.{decimals, listText, refusalText}
 use Rattle.sheets.specs.Examples.{ring}
-use Rattle.search.specs.Listing.{listed, listing}
+use Rattle.lists.specs.Listing.{listed, listing}
 use Rattle.search.specs.Calls.{slotsCause, listReply}
 use Rattle.answers.specs.Answer.{answerText}
 

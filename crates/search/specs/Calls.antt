@@ -13,7 +13,7 @@ use lib.Dec.{leb, ltb}
 use lib.ListN.{length, drop, replicate}
 use Rattle.judging.specs.Refusal.{Reply, refused, answered, Cause, cause, firstOf}
 use Rattle.judging.specs.Calls.{refusal, passed, requestCheck}
-use Rattle.search.specs.Listing.{listing}
+use Rattle.lists.specs.Listing.{listing}
 use Rattle.search.specs.declared.ListFound.{ListFound}
 use Rattle.search.specs.declared.ListFound.the-variants.{Listed, Refused}
 

@@ -17,7 +17,7 @@ use Rattle.sets.specs.BitLaws.{ext, bit-le, bit-and, bit-minus, bit-high, bit-p
 use Rattle.sets.specs.SubsetLaws.{has-in, in-has, in-below, with-same, with-other, without-same, without-other, positive-of}
 use Rattle.search.specs.Choice.{Pickable}
 use Rattle.search.specs.Found.{found}
-use Rattle.search.specs.Placing.{Adds}
+use Rattle.lists.specs.Placing.{Adds}
 use Rattle.search.specs.Cliques.{Covering, Taking, Swept, all-cover, done-adds, swept-none, swept-taking, swept-more, swept-all, next-sweeping, next-adds}
 
 -- ---- small sets

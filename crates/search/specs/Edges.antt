@@ -16,7 +16,7 @@ use Rattle.bounds.specs.Reach.{reach}
 use Rattle.bounds.specs.Bound.{support, usable, ordered, supports, packable, firstBound, lesser, least, tightest, kept, secondBound, largest}
 use Rattle.bounds.specs.Calls.{coreReply, reachCheck, reachReply}
 use Rattle.bounds.specs.BoundCalls.{overlap, misplaced, boundCause, boundCheck, firstBoundReply, secondBoundReply}
-use Rattle.search.specs.Listing.{listed, listing}
+use Rattle.lists.specs.Listing.{listed, listing}
 
 -- ---- the graphs
 

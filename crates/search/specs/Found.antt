@@ -16,7 +16,7 @@ use lib.ListN.{length}
 use Rattle.sets.specs.Set.{bit, In, Sub, size, subset, with}
 use Rattle.sets.specs.Graph.{row}
 use Rattle.judging.specs.Plex.{Plex}
-use Rattle.search.specs.Listing.{listed, Listed}
+use Rattle.lists.specs.Listing.{listed, Listed}
 
 unfoldable pub found : List ℕ → ℕ → ℕ → ℕ → ℕ → ℕ → Bool
 found g k q s c x = subset s x && subset x (bitOr s c) && listed g k q x

@@ -23,10 +23,10 @@ use Rattle.judging.specs.ExtensionLaws.{extendable-none, unextendable-maximal}
 use Rattle.bounds.specs.Bound.{secondBound}
 use Rattle.bounds.specs.BoundSetting.{Boundable}
 use Rattle.bounds.specs.BoundSound.{second-sound}
-use Rattle.search.specs.Listing.{listed}
-use Rattle.search.specs.ListingLaws.{listed-holds, listed-test}
-use Rattle.search.specs.Placing.{Apart, union}
-use Rattle.search.specs.PlacingLaws.{same-test}
+use Rattle.lists.specs.Listing.{listed}
+use Rattle.lists.specs.ListingLaws.{listed-holds, listed-test}
+use Rattle.lists.specs.Placing.{Apart, union}
+use Rattle.lists.specs.PlacingLaws.{same-test}
 use Rattle.search.specs.Found.{found, Found, Empty, Short}
 use Rattle.search.specs.TrimLaws.{Kept}
 

@@ -1,12 +1,5 @@
--- The list, placing, order and the search: definitions first, then their laws.
-pub mod Listing
-pub mod Order
-pub mod Placing
+-- The search: definitions first, then their laws.
 pub mod Found
-pub mod KeepLaws
-pub mod OrderLaws
-pub mod PlacingLaws
-pub mod ListingLaws
 pub mod TrimLaws
 pub mod FoundLaws
 pub mod Survey

@@ -28,7 +28,7 @@ use Rattle.bounds.specs.Pair.{common}
 use Rattle.bounds.specs.PairLaws.{pair-common}
 use Rattle.bounds.specs.Reach.{reach}
 use Rattle.bounds.specs.ReachLaws.{reach-below, plex-reach}
-use Rattle.search.specs.Listing.{Listed}
+use Rattle.lists.specs.Listing.{Listed}
 use Rattle.search.specs.NearRows.{close, pairRow, reachRow, nearRow, Pairing, Written, NearAt, Filled}
 
 -- ---- pair rows

@@ -25,7 +25,7 @@ use Rattle.judging.specs.Graph.{Valid}
 use Rattle.judging.specs.Setting.{Sized, Inside}
 use Rattle.bounds.specs.Pair.{common}
 use Rattle.bounds.specs.Reach.{reach}
-use Rattle.search.specs.Listing.{Listed}
+use Rattle.lists.specs.Listing.{Listed}
 use Rattle.search.specs.Found.{Near}
 
 -- q - 2k common neighbours where they are adjacent, q - 2k + 2 where they are not

@@ -27,8 +27,8 @@ use Rattle.bounds.specs.BoundSetting.{Boundable}
 use Rattle.search.specs.Found.{found, Empty, Compatible, Short, Near}
 use Rattle.search.specs.FoundLaws.{found-holds, cut-none, short-empty, stuck-empty, extendable-empty, leaf-found, leaf-only, branches, branches-apart, branch-without}
 use Rattle.search.specs.Partition.{Between}
-use Rattle.search.specs.Placing.{number, union, only, Adds}
-use Rattle.search.specs.PlacingLaws.{same-test, number-same, number-only, number-union, adds-none, adds-same, adds-both}
+use Rattle.lists.specs.Placing.{number, union, only, Adds}
+use Rattle.lists.specs.PlacingLaws.{same-test, number-same, number-only, number-union, adds-none, adds-same, adds-both}
 use Rattle.search.specs.TrimLaws.{Joinable, Beside, trimmed-compatible}
 use Rattle.search.specs.SiftLaws.{Siftable}
 

@@ -28,11 +28,11 @@ use Rattle.judging.specs.Calls.{passed, requestCheck}
 use Rattle.judging.specs.RefusalLaws.{first-append, first-holds, first-skips, first-passed, graph-sized, graph-checked, slack-graph, slack-accepted, request-slack, floor-accepted}
 use Rattle.bounds.specs.Core.{core}
 use Rattle.bounds.specs.CoreLaws.{core-below, plex-core}
-use Rattle.search.specs.Listing.{listed, listing, Listed}
-use Rattle.search.specs.ListingLaws.{listed-test, listed-holds, listing-fits, listing-placed, listing-sorted, listing-passing}
-use Rattle.search.specs.Order.{Sorts}
-use Rattle.search.specs.Placing.{number, Adds}
-use Rattle.search.specs.PlacingLaws.{same-test, number-same, adds-same, adds-all}
+use Rattle.lists.specs.Listing.{listed, listing, Listed}
+use Rattle.lists.specs.ListingLaws.{listed-test, listed-holds, listing-fits, listing-placed, listing-sorted, listing-passing}
+use Rattle.lists.specs.Order.{Sorts}
+use Rattle.lists.specs.Placing.{number, Adds}
+use Rattle.lists.specs.PlacingLaws.{same-test, number-same, adds-same, adds-all}
 use Rattle.search.specs.Found.{found, Compatible, Near}
 use Rattle.search.specs.FoundLaws.{found-holds, found-test}
 use Rattle.search.specs.NearRows.{Pairing}

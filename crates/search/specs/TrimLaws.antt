@@ -24,7 +24,7 @@ use Rattle.sets.specs.WalkLaws.{Walked, walk-none, walk-next, walk-map, walk-al
 use Rattle.judging.specs.Graph.{missing, Valid}
 use Rattle.judging.specs.Plex.{Plex}
 use Rattle.judging.specs.GraphLaws.{missing-mono, missing-with}
-use Rattle.search.specs.Listing.{Listed}
+use Rattle.lists.specs.Listing.{Listed}
 use Rattle.search.specs.Found.{Found, Compatible, Near}
 
 pub record Kept (g : List ℕ) (k q s c r : ℕ) : Type 0 where

@@ -4,7 +4,7 @@ ghost use lib.ListN.{length};
 ghost use Rattle.sets.specs.Words.{mask, masks};
 ghost use Rattle.judging.specs.Plex.{extendable};
 ghost use Rattle.search.specs.Found.{found};
-ghost use Rattle.search.specs.Placing.{Adds};
+ghost use Rattle.lists.specs.Placing.{Adds};
 ghost use Rattle.search.specs.Ready.{Ready, LeafReady, unless};
 use sets::Set;
 
@@ -17,7 +17,7 @@ fn leaf(rows: &[u64], k: usize, a: Set, free: Set, slots: &mut [u64], count: usi
     if judging::plex::is_extendable(rows, k, a, free) {
         return count;
     }
-    crate::place::push(slots, count, a)
+    lists::place::push(slots, count, a)
 }
 
 // Places every listed plex that holds s and has no member outside s and c, and gives the new count.

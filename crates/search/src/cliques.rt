@@ -7,7 +7,7 @@ ghost use lib.Dec.{ltb};
 ghost use lib.ListN.{length};
 ghost use Rattle.sets.specs.Set.{size, with};
 ghost use Rattle.sets.specs.Words.{width, mask, masks};
-ghost use Rattle.search.specs.Placing.{Adds};
+ghost use Rattle.lists.specs.Placing.{Adds};
 ghost use Rattle.search.specs.Ready.{unless};
 ghost use Rattle.search.specs.Cliques.{Covering, Placeable, Taking, Sweeping, touched};
 ghost use Rattle.search.specs.Found.{found};
@@ -67,7 +67,7 @@ fn place_clique(q: usize, have: usize, s: Set, n: usize, slots: &mut [u64], coun
     if have < q {
         return count;
     }
-    crate::place::push(slots, count, s)
+    lists::place::push(slots, count, s)
 }
 
 // What `take` does where no candidate is left: places the clique s if it has no common neighbour, since m are all of these.

@@ -2,8 +2,8 @@
 ghost use lib.ListN.{length};
 ghost use Prim.Native.Nat.{_^_};
 ghost use Rattle.sets.specs.Words.{mask, masks};
-ghost use Rattle.search.specs.Listing.{listed};
-ghost use Rattle.search.specs.Placing.{Adds};
+ghost use Rattle.lists.specs.Listing.{listed};
+ghost use Rattle.lists.specs.Placing.{Adds};
 ghost use Rattle.search.specs.TopLaws.{Accepted, Candidates};
 ghost use Rattle.search.specs.Calls.{Lists};
 
@@ -13,8 +13,6 @@ mod cliques;
 mod cut;
 mod near;
 mod partition;
-mod place;
-mod sort;
 mod survey;
 mod trim;
 
@@ -118,10 +116,10 @@ pub fn list_with(rows: &[u64], request: Request, cuts: Cuts, slots: &mut [u64]) 
     }
     let m = enumerate(rows, request.slack, request.floor, cuts, slots);
     if sets::count(slots) < m {
-        place::clear(slots);
+        lists::place::clear(slots);
         return ListFound::Refused(Refusal::Slots(m));
     }
-    sort::sort(&mut slots[..m]);
+    lists::sort::sort(&mut slots[..m]);
     ListFound::Listed(m)
 }
 

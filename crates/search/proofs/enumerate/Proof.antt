@@ -6,8 +6,8 @@ use borrow.Author.Needs.{needs}
 use denote.Ref.{now}
 use lib.ListN.{length}
 use Rattle.sets.specs.Words.{mask, masks}
-use Rattle.search.specs.Listing.{listed}
-use Rattle.search.specs.Placing.{Adds}
+use Rattle.lists.specs.Listing.{listed}
+use Rattle.lists.specs.Placing.{Adds}
 use Rattle.search.specs.TopLaws.{Accepted, Candidates, table-room, start-pairing, start-ready, start-adds}
 use Rattle.search.proofs.enumerate.Statement.{statement}
 use Rattle.search.proofs.enumerate.Tie as tie

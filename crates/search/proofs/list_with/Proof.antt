@@ -13,9 +13,9 @@ use Rattle.judging.specs.Calls.{numberOf, valueOf, checkedReply, requestCheck}
 use Rattle.judging.specs.RefusalLaws.{first-append}
 use Rattle.judging.specs.CallLaws.{check-failed, none-holds}
 use Rattle.search.specs.Calls.{listReply}
-use Rattle.search.specs.Order.{Sorts}
+use Rattle.lists.specs.Order.{Sorts}
 use Rattle.search.specs.TopLaws.{accepted, refused-slots, list-long, list-fits, list-slots, list-short, list-cleared}
-use Rattle.search.proofs.PartLaws.{back-before}
+use Rattle.lists.specs.PartLaws.{back-before}
 use Rattle.search.proofs.list_with.Statement.{statement}
 use Rattle.search.proofs.list_with.Tie as tie
 

@@ -9,7 +9,7 @@ use borrow.Author.Needs.{needs}
 use borrow.Author.Tests.{eqb-true, eqb-false}
 use Rattle.sets.specs.Words.{mask}
 use Rattle.sets.specs.SubsetLaws.{in-below, in-of-sub, sub-below, positive-of}
-use Rattle.search.specs.PlacingLaws.{adds-same}
+use Rattle.lists.specs.PlacingLaws.{adds-same}
 use Rattle.search.specs.Survey.{survey-plex, survey-free}
 use Rattle.search.specs.Ready.{ready-between, ready-inside, ready-joinable, ready-siftable, short-adds, extendable-adds, stuck-adds, leaf-adds, leaf-room, with-boundable, with-ready, with-falls, without-falls, without-ready, without-adds, branches-add}
 use Rattle.search.proofs.branch.branch.Reads as branch

@@ -1,0 +1,9 @@
+-- The list, order and placing: definitions first, then their laws.
+pub mod Listing
+pub mod Order
+pub mod Placing
+pub mod KeepLaws
+pub mod PartLaws
+pub mod OrderLaws
+pub mod PlacingLaws
+pub mod ListingLaws

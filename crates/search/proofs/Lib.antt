@@ -1,6 +1,0 @@
--- What the proofs of placing and sorting share.
-pub mod PartLaws
-pub mod PushLaws
-pub mod ShiftLaws
-pub mod InsertLaws
-pub mod SplitLaws
