@@ -11,13 +11,9 @@ ghost use Rattle.search.specs.Found.{Short, Empty};
 ghost use Rattle.search.specs.Partition.{Between};
 use sets::Set;
 
-// Is the partition bound asked? Once s and k come to the floor nearly every branch lists something, and the bound only costs.
-fn is_asked(k: usize, q: usize, parted: bool, s: Set) -> bool {
-    let have = sets::size(s);
-    if q <= have {
-        return false;
-    }
-    parted && k < q - have
+// Is the partition bound asked? Once s is within two members of the floor nearly every branch lists something, and the bound costs more than it cuts.
+fn is_asked(q: usize, parted: bool, s: Set) -> bool {
+    parted && sets::size(s) + 2 < q
 }
 
 // Has every plex between s and a fewer than q members: by the size of a, or by the partition bound?
@@ -28,7 +24,7 @@ pub fn is_short(rows: &[u64], k: usize, q: usize, parted: bool, s: Set, a: Set) 
     if sets::size(a) < q {
         return true;
     }
-    if is_asked(k, q, parted, s) {
+    if is_asked(q, parted, s) {
         return crate::partition::falls_short(rows, k, q, s, a);
     }
     false
