@@ -11,6 +11,7 @@ use Prim.Native.Nat.{ℕ, _≤_}
 use mathlib.Core.Path.{_≡_}
 use mathlib.Core.List.{List}
 use lib.ListN.{length}
+use Rattle.judging.specs.Request.{Request}
 use Rattle.judging.specs.Refusal.{Reply, refused, answered, mostVertices}
 use Rattle.sheets.specs.Sheet.{Sheet, reading, over}
 use Rattle.sheets.specs.Output.{replyText, listLength, refusalLength}
@@ -23,11 +24,11 @@ withList (answered m u) l = answered m l
 
 abbrev pub answerOf : Reply Sheet → ℕ → Reply (List ℕ)
 answerOf (refused n v) room = refused n v
-answerOf (answered v s) room = withList (listReply (s .rows) (s .slack) (s .floor) room) (listing (s .rows) (s .slack) (s .floor))
+answerOf (answered v s) room = withList (listReply (s .rows) (s .request) room) (listing (s .rows) (s .request))
 
 abbrev pub slotsOf : Reply Sheet → List ℕ → List ℕ
 slotsOf (refused n v) slots = slots
-slotsOf (answered v s) slots = slotsAfter (s .rows) (s .slack) (s .floor) slots
+slotsOf (answered v s) slots = slotsAfter (s .rows) (s .request) slots
 
 -- every graph that is accepted has room: number 9 never comes
 unfoldable pub answerText : List ℕ → ℕ → List ℕ
@@ -41,9 +42,9 @@ pub record Writes (new old out : List ℕ) (r : ℕ) : Type 0 where
   pub text : out ≡ over new old
 
 -- the call that lists answered, and its answer was written
-pub record WritesList (g : List ℕ) (k q : ℕ) (before after old out : List ℕ) (r : ℕ) : Type 0 where
-  pub written : Writes (replyText (withList (listReply g k q (length before)) (listing g k q))) old out r
-  pub slots : after ≡ slotsAfter g k q before
+pub record WritesList (g : List ℕ) (ask : Request) (before after old out : List ℕ) (r : ℕ) : Type 0 where
+  pub written : Writes (replyText (withList (listReply g ask (length before)) (listing g ask))) old out r
+  pub slots : after ≡ slotsAfter g ask before
 
 pub record Answers (t before after old out : List ℕ) (r : ℕ) : Type 0 where
   pub written : Writes (answerText t (length before)) old out r

@@ -9,6 +9,7 @@ use lib.Seq.{take-at, drop-at, drop-drop, length-take-le}
 use borrow.Rule.Slice.PartAt.{part-to-end}
 use Rattle.sets.specs.Words.{masks}
 use Rattle.sets.specs.Words.Operations.{count-masks, take-masks}
+use Rattle.judging.specs.Request.{Request}
 use Rattle.judging.specs.Refusal.{Reply, refused, answered, mostVertices}
 use Rattle.judging.specs.Calls.{refusal, numberOf, valueOf}
 use Rattle.judging.specs.declared.Refusal.{Refusal}
@@ -110,36 +111,36 @@ refusal-written n v x y z (a ∷ b ∷ c ∷ d ∷ t) p l e f i h =
 
 -- ---- the call that lists
 
-module _ (g : List ℕ) (k q : ℕ) (before : List ℕ) where
-  pub not-listed : (f : Refusal) (old out : List ℕ) (r : ℕ) (after : List ℕ) → refusal f ≡ listReply g k q (length before) → after ≡ slotsAfter g k q before
-      → Writes (refusalText (numberOf f) (valueOf f)) old out r → WritesList g k q before after old out r
+module _ (g : List ℕ) (ask : Request) (before : List ℕ) where
+  pub not-listed : (f : Refusal) (old out : List ℕ) (r : ℕ) (after : List ℕ) → refusal f ≡ listReply g ask (length before) → after ≡ slotsAfter g ask before
+      → Writes (refusalText (numberOf f) (valueOf f)) old out r → WritesList g ask before after old out r
   not-listed f old out r after e s w =
-      record { written = subst (λ (x : Reply (Unit {0})). Writes (replyText (withList x (listing g k q))) old out r) e w; slots = s }
+      record { written = subst (λ (x : Reply (Unit {0})). Writes (replyText (withList x (listing g ask))) old out r) e w; slots = s }
 
-  module _ (m : ℕ) (e : answered m tt ≡ listReply g k q (length before)) where
+  module _ (m : ℕ) (e : answered m tt ≡ listReply g ask (length before)) where
     -- the words that are left in the slots
-    module _ (ws : List ℕ) (s : masks ws ≡ slotsAfter g k q before) where
+    module _ (ws : List ℕ) (s : masks ws ≡ slotsAfter g ask before) where
       pub listed-fits : m ≤ length ws
       listed-fits =
           omega (
             arith,
-            list-count g k q (length before) (sym e),
+            list-count g ask (length before) (sym e),
             count-masks ws,
-            ap length (s ∙ slots-list g k q before (sym e)),
-            length-append (listing g k q) (drop m before),
+            ap length (s ∙ slots-list g ask before (sym e)),
+            length-append (listing g ask) (drop m before),
           )
 
-      listed-front : masks (take m ws) ≡ listing g k q
-      listed-front = take-masks m ws ∙ ap (take m) s ∙ slots-first g k q before (sym e)
+      listed-front : masks (take m ws) ≡ listing g ask
+      listed-front = take-masks m ws ∙ ap (take m) s ∙ slots-first g ask before (sym e)
 
       pub listed-few : length (masks (take m ws)) ≤ length before
-      listed-few = omega (arith, ap length listed-front, list-count g k q (length before) (sym e), list-room g k q (length before) (sym e))
+      listed-few = omega (arith, ap length listed-front, list-count g ask (length before) (sym e), list-room g ask (length before) (sym e))
 
-      pub listed-out : (old out : List ℕ) (r : ℕ) → Writes (listText (masks (take m ws))) old out r → WritesList g k q before (masks ws) old out r
+      pub listed-out : (old out : List ℕ) (r : ℕ) → Writes (listText (masks (take m ws))) old out r → WritesList g ask before (masks ws) old out r
       listed-out old out r w =
           record {
             written =
-                subst (λ (x : Reply (Unit {0})). Writes (replyText (withList x (listing g k q))) old out r) e
+                subst (λ (x : Reply (Unit {0})). Writes (replyText (withList x (listing g ask))) old out r) e
                 (subst (λ (l : List ℕ). Writes (listText l) old out r) listed-front w);
             slots = s;
           }
@@ -147,28 +148,29 @@ module _ (g : List ℕ) (k q : ℕ) (before : List ℕ) where
 -- ---- the sheet that was read
 
 -- its rows are the first n of the words that were lent
-module _ (t : List ℕ) (n k q : ℕ) (rest ws : List ℕ) (e : answered 0 (heading n k q) ≡ headingOf (reading t mostVertices)) (p : masks ws ≡ rowsAfter (reading t mostVertices) rest) where
+module _ (t : List ℕ) (n : ℕ) (ask : Request) (rest ws : List ℕ) (e : answered 0 (heading n ask) ≡ headingOf (reading t mostVertices))
+    (p : masks ws ≡ rowsAfter (reading t mostVertices) rest) where
   pub rows-fit : n ≤ length ws
   rows-fit = go (reading t mostVertices) e p
     where
-      go : (x : Reply Sheet) → answered 0 (heading n k q) ≡ headingOf x → masks ws ≡ rowsAfter x rest → n ≤ length ws
+      go : (x : Reply Sheet) → answered 0 (heading n ask) ≡ headingOf x → masks ws ≡ rowsAfter x rest → n ≤ length ws
       go (refused c v) z y = let w : _≡_ {A = ℕ} 0 1 = cc in absurd (omega arith)
       go (answered v s) z y =
-          let same : heading n k q ≡ heading (length (s .rows)) (s .slack) (s .floor) = cc in
+          let same : heading n ask ≡ heading (length (s .rows)) (s .request) = cc in
           omega (arith, ap (λ (h : Heading). h .vertices) same, count-masks ws, ap length y, over-length (s .rows) rest)
 
-  pub answer-listed : (before after old out : List ℕ) (r : ℕ) → WritesList (masks (take n ws)) k q before after old out r → Answers t before after old out r
+  pub answer-listed : (before after old out : List ℕ) (r : ℕ) → WritesList (masks (take n ws)) ask before after old out r → Answers t before after old out r
   unfolding answerText slotsLeft
   answer-listed before after old out r w = let h = go (reading t mostVertices) e p in record { written = h .0; slots = h .1 }
     where
-      go : (x : Reply Sheet) → answered 0 (heading n k q) ≡ headingOf x → masks ws ≡ rowsAfter x rest
+      go : (x : Reply Sheet) → answered 0 (heading n ask) ≡ headingOf x → masks ws ≡ rowsAfter x rest
           → Writes (replyText (answerOf x (length before))) old out r × (after ≡ slotsOf x before)
       go (refused c v) z y = let u : _≡_ {A = ℕ} 0 1 = cc in absurd (omega arith)
       go (answered v s) z y =
-          let same : heading n k q ≡ heading (length (s .rows)) (s .slack) (s .floor) = cc in
+          let same : heading n ask ≡ heading (length (s .rows)) (s .request) = cc in
           let front : masks (take n ws) ≡ s .rows = take-masks n ws ∙ ap (take n) y ∙ over-front (s .rows) rest n (sym (ap (λ (h : Heading). h .vertices) same)) in
-          let h : WritesList (s .rows) (s .slack) (s .floor) before after old out r =
-          subst (λ (x : Heading). WritesList (s .rows) (x .slack) (x .floor) before after old out r) same (subst (λ (g : List ℕ). WritesList g k q before after old out r) front w) in
+          let h : WritesList (s .rows) (s .request) before after old out r =
+          subst (λ (x : Heading). WritesList (s .rows) (x .request) before after old out r) same (subst (λ (g : List ℕ). WritesList g ask before after old out r) front w) in
           (h .written, h .slots)
 
 pub answer-refused : (t before old out : List ℕ) (r : ℕ) (f : Refusal) → refusal f ≡ headingOf (reading t mostVertices) → Writes (refusalText (numberOf f) (valueOf f)) old out r

@@ -1,5 +1,6 @@
 // The whole of what the program answers: the bytes of a sheet in, the bytes to print out.
 ghost use Rattle.sets.specs.Words.{masks};
+ghost use Rattle.judging.specs.Request.{asked};
 ghost use Rattle.answers.specs.Answer.{Answers, WritesList, Room};
 
 mod output;
@@ -12,7 +13,7 @@ use sheets::SheetRead;
 // Lists the maximal k-plexes of the graph into the slots, and writes the list, or why there is none, to the front of `out`.
 fn list_out(rows: &[u64], request: Request, slots: &mut [u64], out: &mut [u8]) -> usize
     requires { ⌜ Room (masks (now slots)) (now out) ⌝ }
-    ensures { λ r. ⌜ WritesList (masks (now (rows .entry))) (request .slack) (request .floor) (masks (now (slots .entry))) (masks (now (slots .exit))) (now (out .entry)) (now (out .exit)) r ⌝ }
+    ensures { λ r. ⌜ WritesList (masks (now (rows .entry))) (asked request) (masks (now (slots .entry))) (masks (now (slots .exit))) (now (out .entry)) (now (out .exit)) r ⌝ }
 {
     let found = search::list(rows, request, slots);
     match found {

@@ -5,6 +5,7 @@ use mathlib.Core.Path.{_≡_, sym, ap, _∙_}
 use mathlib.Core.List.{List, [], _∷_}
 use lib.ListN.{length}
 use borrow.Author.Tests.{le-leb, lt-leb}
+use Rattle.judging.specs.Request.{request}
 use Rattle.judging.specs.Refusal.{refused, answered, firstOf, vertexOutCause}
 use Rattle.judging.specs.Calls.{refusal, passed, checkedReply, graphCheck, requestCheck}
 use Rattle.judging.specs.Setting.{Sized, LowRows}
@@ -19,23 +20,23 @@ use Rattle.bounds.specs.Calls.{coreReply, reachCheck, reachReply}
 
 -- ---- the core
 
-module _ (g : List ℕ) (k q : ℕ) (r : Checked) (h : checkedReply r ≡ firstOf (requestCheck g k q) passed) where
+module _ (g : List ℕ) (k q : ℕ) (r : Checked) (h : checkedReply r ≡ firstOf (requestCheck g (request k q)) passed) where
   pub core-refused : (f : Refusal) → r ≡ Failed f → refusal f ≡ coreReply g k q
   unfolding coreReply
-  core-refused f e = check-failed (requestCheck g k q) r h f (answered 0 (core g (q - k))) e
+  core-refused f e = check-failed (requestCheck g (request k q)) r h f (answered 0 (core g (q - k))) e
 
-  none : r ≡ Passed → firstOf (requestCheck g k q) passed ≡ passed
+  none : r ≡ Passed → firstOf (requestCheck g (request k q)) passed ≡ passed
   none e = sym h ∙ ap checkedReply e
 
   pub core-sized : r ≡ Passed → Sized g
-  core-sized e = graph-sized g (slack-graph g k (request-slack g k q (none e)))
+  core-sized e = graph-sized g (slack-graph g k (request-slack g (request k q) (none e)))
 
   pub core-floor : r ≡ Passed → k ≤ q
-  core-floor e = omega (arith, slack-accepted g k (request-slack g k q (none e)), floor-accepted g k q (none e))
+  core-floor e = omega (arith, slack-accepted g k (request-slack g (request k q) (none e)), floor-accepted g (request k q) (none e))
 
   pub core-found : r ≡ Passed → (s : ℕ) → s ≡ core g (q - k) → answered 0 s ≡ coreReply g k q
   unfolding coreReply
-  core-found e s c = ap (answered 0) c ∙ sym (first-passed (requestCheck g k q) (answered 0 (core g (q - k))) (none e))
+  core-found e s c = ap (answered 0) c ∙ sym (first-passed (requestCheck g (request k q)) (answered 0 (core g (q - k))) (none e))
 
 -- ---- the reach
 

@@ -6,6 +6,7 @@
 use Prim.Native.Nat.{ℕ, _-_}
 use mathlib.Core.List.{List, [], _∷_, _++_}
 use Rattle.sets.specs.Words.{mask}
+use Rattle.judging.specs.Request.{request}
 use Rattle.judging.specs.Refusal.{Reply, answered, Cause, firstOf, vertexOutCause}
 use Rattle.judging.specs.Calls.{refusal, graphCheck, requestCheck}
 use Rattle.bounds.specs.Core.{core}
@@ -20,7 +21,7 @@ coreFoundReply (coreFound.Core s) = answered 0 (mask s)
 coreFoundReply (coreFound.Refused f) = refusal f
 
 unfoldable pub coreReply : List ℕ → ℕ → ℕ → Reply ℕ
-coreReply g k q = firstOf (requestCheck g k q) (answered 0 (core g (q - k)))
+coreReply g k q = firstOf (requestCheck g (request k q)) (answered 0 (core g (q - k)))
 
 abbrev pub reachFoundReply : ReachFound → Reply ℕ
 reachFoundReply (reachFound.Reach s) = answered 0 (mask s)

@@ -10,6 +10,7 @@ use Rattle.sets.specs.Set.{In, Sub, size, with}
 use Rattle.sets.specs.SubsetLaws.{sub-with, sub-trans, in-of-sub, with-same}
 use Rattle.judging.specs.Graph.{Valid}
 use Rattle.judging.specs.Plex.{Plex}
+use Rattle.judging.specs.Request.{request}
 use Rattle.judging.specs.Refusal.{answered, firstOf, vertexOutCause}
 use Rattle.judging.specs.Calls.{graphCheck, requestCheck}
 use Rattle.judging.specs.RefusalLaws.{answered-passed, answered-value, answered-found, passed-front, graph-checked}
@@ -30,11 +31,11 @@ use Rattle.bounds.specs.BoundCallLaws.{bound-checked}
 module _ (g : List ℕ) (k q : ℕ) {v c : ℕ} (e : coreReply g k q ≡ answered v c) where
   pub core-value : v ≡ 0
   unfolding coreReply
-  core-value = answered-value (requestCheck g k q) 0 (core g (q - k)) e
+  core-value = answered-value (requestCheck g (request k q)) 0 (core g (q - k)) e
 
   pub core-answer : c ≡ core g (q - k)
   unfolding coreReply
-  core-answer = answered-found (requestCheck g k q) 0 (core g (q - k)) e
+  core-answer = answered-found (requestCheck g (request k q)) 0 (core g (q - k)) e
 
   -- it is a set of vertices in which each is adjacent to at least q - k members
   pub core-in-graph : c < 2 ^ length g

@@ -9,6 +9,7 @@ use mathlib.Core.Bool.{Bool, true, false}
 use mathlib.Core.List.{List, [], _∷_, _++_}
 use lib.ListN.{length}
 use Rattle.judging.specs.Plex.{plex, maximal}
+use Rattle.judging.specs.Request.{Request}
 use Rattle.judging.specs.Refusal.{Reply, refused, answered, Cause, firstOf, vertexCause, slackCause, floorCause, graphCauses, setCause}
 use Rattle.judging.specs.declared.Refusal.{Refusal}
 use Rattle.judging.specs.declared.Refusal.the-variants.{Vertices, Slack, Floor, Row, OneWay, Slots, Outside, Line, Room, Bound}
@@ -62,8 +63,8 @@ unfoldable pub slackCheck : List ℕ → ℕ → List Cause
 slackCheck g k = vertexCause (length g) ∷ slackCause k ∷ graphCauses g
 
 -- 1, 2, 3, 4, 5
-unfoldable pub requestCheck : List ℕ → ℕ → ℕ → List Cause
-requestCheck g k q = vertexCause (length g) ∷ slackCause k ∷ floorCause k q ∷ graphCauses g
+unfoldable pub requestCheck : List ℕ → Request → List Cause
+requestCheck g ask = vertexCause (length g) ∷ slackCause (ask .slack) ∷ floorCause (ask .slack) (ask .floor) ∷ graphCauses g
 
 -- 1, 2, 4, 5, 7
 unfoldable pub setCheck : List ℕ → ℕ → ℕ → List Cause

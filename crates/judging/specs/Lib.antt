@@ -1,6 +1,7 @@
 -- Graphs, k-plexes and refusals: definitions first, then their laws.
 pub mod Graph
 pub mod Plex
+pub mod Request
 pub mod Refusal
 pub mod Setting
 pub mod Calls

@@ -16,6 +16,7 @@ use Rattle.sets.specs.RangeLaws.{mem-range, any-intro, both, or-left, or-right,
 use Rattle.sets.specs.BitLaws.{bit-le}
 use Rattle.sets.specs.SubsetLaws.{has-in, in-has}
 use Rattle.judging.specs.Graph.{adjacent, Valid}
+use Rattle.judging.specs.Request.{Request}
 use Rattle.judging.specs.Refusal.{Reply, refused, answered, Cause, firstOf, mostVertices, mostSlack, outside, vertexCause, slackCause, floorCause, badRow, oneWay, lowestRow, rowCause, edgeCause, graphCauses, setCause, vertexOutCause}
 use Rattle.judging.specs.Calls.{passed, graphCheck, slackCheck, requestCheck, setCheck}
 use Rattle.judging.specs.Setting.{Sized, Judgeable}
@@ -206,20 +207,23 @@ module _ (g : List ℕ) where
       first-skips (vertexCause (length g)) (graphCauses g) passed (passed-head (vertexCause (length g)) cs e)
       ∙ passed-tail (slackCause k) (graphCauses g) (passed-tail (vertexCause (length g)) cs e)
 
-  pub request-slack : (k q : ℕ) → firstOf (requestCheck g k q) passed ≡ passed → firstOf (slackCheck g k) passed ≡ passed
+  pub request-slack : (ask : Request) → firstOf (requestCheck g ask) passed ≡ passed → firstOf (slackCheck g (ask .slack)) passed ≡ passed
   unfolding slackCheck requestCheck
-  request-slack k q e =
-      let after = passed-tail (vertexCause (length g)) (slackCause k ∷ floorCause k q ∷ graphCauses g) e in
-      first-skips (vertexCause (length g)) (slackCause k ∷ graphCauses g) passed (passed-head (vertexCause (length g)) (slackCause k ∷ floorCause k q ∷ graphCauses g) e)
-      ∙ first-skips (slackCause k) (graphCauses g) passed (passed-head (slackCause k) (floorCause k q ∷ graphCauses g) after)
-      ∙ passed-tail (floorCause k q) (graphCauses g) (passed-tail (slackCause k) (floorCause k q ∷ graphCauses g) after)
+  request-slack ask e =
+      let k = ask .slack in
+      let limit = floorCause k (ask .floor) in
+      let after = passed-tail (vertexCause (length g)) (slackCause k ∷ limit ∷ graphCauses g) e in
+      first-skips (vertexCause (length g)) (slackCause k ∷ graphCauses g) passed (passed-head (vertexCause (length g)) (slackCause k ∷ limit ∷ graphCauses g) e)
+      ∙ first-skips (slackCause k) (graphCauses g) passed (passed-head (slackCause k) (limit ∷ graphCauses g) after)
+      ∙ passed-tail limit (graphCauses g) (passed-tail (slackCause k) (limit ∷ graphCauses g) after)
 
-  pub floor-accepted : (k q : ℕ) → firstOf (requestCheck g k q) passed ≡ passed → (2 * k - 1 ≤ q) × (q ≤ mostVertices)
+  pub floor-accepted : (ask : Request) → firstOf (requestCheck g ask) passed ≡ passed → (2 * ask .slack - 1 ≤ ask .floor) × (ask .floor ≤ mostVertices)
   unfolding requestCheck floorCause
-  floor-accepted k q e =
-      let after = passed-tail (vertexCause (length g)) (slackCause k ∷ floorCause k q ∷ graphCauses g) e in
-      within-range (2 * k - 1) mostVertices q
-      (passed-head (floorCause k q) (graphCauses g) (passed-tail (slackCause k) (floorCause k q ∷ graphCauses g) after))
+  floor-accepted ask e =
+      let k = ask .slack in
+      let limit = floorCause k (ask .floor) in
+      let after = passed-tail (vertexCause (length g)) (slackCause k ∷ limit ∷ graphCauses g) e in
+      within-range (2 * k - 1) mostVertices (ask .floor) (passed-head limit (graphCauses g) (passed-tail (slackCause k) (limit ∷ graphCauses g) after))
 
   pub set-below : (s : ℕ) → setCause g s .holds ≡ false → s < 2 ^ length g
   unfolding setCause

@@ -4,6 +4,7 @@ ghost use mathlib.Core.Bool.{not};
 ghost use Prim.Native.Nat.{_*_, _-_, _<_, _≤_};
 ghost use lib.ListN.{length};
 ghost use Rattle.sets.specs.Words.{mask, masks};
+ghost use Rattle.judging.specs.Request.{asked};
 ghost use Rattle.judging.specs.Refusal.{mostVertices, mostSlack, outside, firstOf, badRow, oneWay, lowestRow, graphCauses};
 ghost use Rattle.judging.specs.Calls.{passed, checkedReply, graphCheck, slackCheck, requestCheck, setCheck};
 ghost use Rattle.judging.specs.Setting.{Sized, LowRows};
@@ -133,7 +134,7 @@ fn check_slack(rows: &[u64], slack: usize) -> Checked
 
 // Refusals 1, 2, 3, 4 and 5.
 pub fn check_request(rows: &[u64], request: Request) -> Checked
-    ensures { λ r. ⌜ checkedReply r ≡ firstOf (requestCheck (masks (now (rows .entry))) (request .slack) (request .floor)) passed ⌝ }
+    ensures { λ r. ⌜ checkedReply r ≡ firstOf (requestCheck (masks (now (rows .entry))) (asked request)) passed ⌝ }
 {
     if !vertices_accepted(sets::count(rows)) {
         return Checked::Failed(Refusal::Vertices);

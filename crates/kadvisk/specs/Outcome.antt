@@ -9,6 +9,7 @@ use mathlib.Core.Path.{_≡_}
 use mathlib.Core.Bool.{Bool, cond}
 use mathlib.Core.List.{List}
 use lib.ListN.{length}
+use Rattle.judging.specs.Request.{Request}
 use Rattle.judging.specs.Refusal.{Reply, replyNumber, replyValue, foundIn}
 use Rattle.search.specs.Calls.{listReply, slotsAfter}
 use Rattle.sheets.specs.Calls.{Heading, headingOf}
@@ -34,20 +35,20 @@ readOutcome r =
       number = replyNumber r;
       value = replyValue r;
       vertices = foundIn (λ h. h .vertices) r;
-      slack = foundIn (λ h. h .slack) r;
-      floor = foundIn (λ h. h .floor) r;
+      slack = foundIn (λ h. h .request .slack) r;
+      floor = foundIn (λ h. h .request .floor) r;
     }
 
 -- ---- the calls that write to a lent buffer
 
-pub record Listed (g : List ℕ) (k q : ℕ) (before after : List ℕ) (r : Outcome) : Type 0 where
-  pub answer : r ≡ outcome nothing (listReply g k q (length before))
-  pub slots : after ≡ slotsAfter g k q before
+pub record Listed (g : List ℕ) (ask : Request) (before after : List ℕ) (r : Outcome) : Type 0 where
+  pub answer : r ≡ outcome nothing (listReply g ask (length before))
+  pub slots : after ≡ slotsAfter g ask before
 
 pub record Read (text before after : List ℕ) (r : ReadOutcome) : Type 0 where
   pub answer : r ≡ readOutcome (headingOf (reading text (length before)))
   pub rows : after ≡ rowsAfter (reading text (length before)) before
 
-pub record Wrote (g : List ℕ) (k q : ℕ) (before after : List ℕ) (r : Outcome) : Type 0 where
-  pub answer : r ≡ outcome nothing (writing g k q (length before))
-  pub text : after ≡ textAfter (writing g k q (length before)) (sheetText g k q) before
+pub record Wrote (g : List ℕ) (ask : Request) (before after : List ℕ) (r : Outcome) : Type 0 where
+  pub answer : r ≡ outcome nothing (writing g ask (length before))
+  pub text : after ≡ textAfter (writing g ask (length before)) (sheetText g ask) before

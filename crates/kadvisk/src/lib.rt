@@ -2,6 +2,7 @@
 // beyond what its types say.
 ghost use mathlib.Core.Path.{_≡_};
 ghost use Rattle.sets.specs.Words.{mask, masks};
+ghost use Rattle.judging.specs.Request.{request};
 ghost use Rattle.judging.specs.Calls.{plexReply, maximalReply};
 ghost use Rattle.bounds.specs.Calls.{coreReply, reachReply};
 ghost use Rattle.bounds.specs.BoundCalls.{firstBoundReply, secondBoundReply};
@@ -106,7 +107,7 @@ pub extern "C" fn kadvisk_list(
     floor: usize,
     slots: &mut [u64],
 ) -> Outcome
-    ensures { λ r. ⌜ Listed (masks (now (rows .entry))) slack floor (masks (now (slots .entry))) (masks (now (slots .exit))) r ⌝ }
+    ensures { λ r. ⌜ Listed (masks (now (rows .entry))) (request slack floor) (masks (now (slots .entry))) (masks (now (slots .exit))) r ⌝ }
 {
     let found = search::list(rows, Request { slack, floor }, slots);
     answer::listed(found)
@@ -135,7 +136,7 @@ pub extern "C" fn kadvisk_list_with(
     flags: u64,
     slots: &mut [u64],
 ) -> Outcome
-    ensures { λ r. ⌜ Listed (masks (now (rows .entry))) slack floor (masks (now (slots .entry))) (masks (now (slots .exit))) r ⌝ }
+    ensures { λ r. ⌜ Listed (masks (now (rows .entry))) (request slack floor) (masks (now (slots .entry))) (masks (now (slots .exit))) r ⌝ }
 {
     let found = search::list_with(rows, Request { slack, floor }, cuts(flags), slots);
     answer::listed(found)
@@ -160,7 +161,7 @@ pub extern "C" fn kadvisk_write_sheet(
     floor: usize,
     text: &mut [u8],
 ) -> Outcome
-    ensures { λ r. ⌜ Wrote (masks (now (rows .entry))) slack floor (now (text .entry)) (now (text .exit)) r ⌝ }
+    ensures { λ r. ⌜ Wrote (masks (now (rows .entry))) (request slack floor) (now (text .entry)) (now (text .exit)) r ⌝ }
 {
     let written = sheets::write_sheet(rows, Request { slack, floor }, text);
     answer::written(written)

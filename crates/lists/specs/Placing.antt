@@ -1,12 +1,13 @@
 -- Placing: what it is for slots to hold the masks below a bound that pass a test, in any order, and to be given more of them.
 --
---   passing N P      the masks below N that pass P, in rising order: the list is passing (2 ^ n) (listed g k q)
+--   passing N P      the masks below N that pass P, in rising order: the list is passing (2 ^ n) (listed g ask)
 --   number N P       how many they are
 --   union P Q        the masks that pass P and those that pass Q;  only x, the mask x alone
 --   Apart N P Q      no mask below N passes both
---   Holds N first P slots count      count masks pass P; while they fit, slots hold them, in any order, and after them what first held there
+--   capped n         n, or 2 ^ 64 - 1 where n is greater: the count stops there
+--   Holds N first P slots count      count is how many masks pass P, capped; while they fit, slots hold them, in any order, and after them what first held there
 --   Adds N Q before count after r    the step from (before, count) to (after, r) adds the masks that pass Q
-use Prim.Native.Nat.{ℕ, _+_, _≤_, _<_}
+use Prim.Native.Nat.{ℕ, _+_, _-_, _^_, _≤_, _<_, min}
 use mathlib.Core.Path.{_≡_}
 use mathlib.Core.Bool.{Bool, _||_}
 use mathlib.Core.List.{List}
@@ -30,12 +31,17 @@ only x y = eqb y x
 abbrev pub Apart : ℕ → (ℕ → Bool) → (ℕ → Bool) → Type 0
 Apart N P Q = (x : ℕ) → x < N → T (P x) → T (Q x) → ⊥
 
-pub record Holds (N : ℕ) (first : List ℕ) (P : ℕ → Bool) (slots : List ℕ) (count : ℕ) : Type 0 where
-  pub counted : count ≡ number N P
-  pub long : length slots ≡ length first
-  pub kept : count ≤ length first → Shuffled (take count slots) (passing N P) × (drop count slots ≡ drop count first)
+abbrev pub mostCount : ℕ
+mostCount = 2 ^ 64 - 1
 
--- the masks of Q are counted, and slots that held the masks of a P apart from Q hold those of P and Q
+abbrev pub capped : ℕ → ℕ
+capped n = min n mostCount
+
+pub record Holds (N : ℕ) (first : List ℕ) (P : ℕ → Bool) (slots : List ℕ) (count : ℕ) : Type 0 where
+  pub counted : count ≡ capped (number N P)
+  pub long : length slots ≡ length first
+  pub kept : number N P ≤ length first → Shuffled (take (number N P) slots) (passing N P) × (drop (number N P) slots ≡ drop (number N P) first)
+
+-- where the masks of a P apart from Q were counted and held, those of P and Q are
 pub record Adds (N : ℕ) (Q : ℕ → Bool) (before : List ℕ) (count : ℕ) (after : List ℕ) (r : ℕ) : Type 0 where
-  pub counts : r ≡ count + number N Q
   pub holds : (first : List ℕ) (P : ℕ → Bool) → Apart N P Q → Holds N first P before count → Holds N first (union P Q) after r

@@ -1,18 +1,17 @@
 -- Laws of the masks that pass a test and of steps that add some: nothing, the same, one mask, one step after the other, all.
 use Prim.Native.Nat.{ℕ, zero, suc, _+_, _≤_, _<_, zero-le}
-use native.Mathlib.Nat.{add-zero}
 use native.Mathlib.Omega.{arith}
 use mathlib.Core.Path.{_≡_, refl, sym, ap, _∙_, subst}
 use mathlib.Core.Logic.{_⊎_, inl, inr}
 use mathlib.Core.Bool.{Bool, true, false, _||_, cond}
 use mathlib.Core.List.{List, [], _∷_, List·Memᴰ·head, List·Memᴰ·eq-of-singleton}
 use lib.Dec.{T, eqb, eqb→eq, eqb-refl}
-use lib.ListN.{length}
+use lib.ListN.{length, take, drop}
 use Rattle.sets.specs.Ranges.{from, range, keep}
 use Rattle.sets.specs.RangeLaws.{length-from, mem-range, range-mem, keep-mem, mem-keep, or-cases, or-left, or-right}
 use Rattle.sets.specs.SumLaws.{length-total}
-use Rattle.lists.specs.Order.{times}
-use Rattle.lists.specs.Placing.{passing, number, union, only, Apart, Holds, Adds}
+use Rattle.lists.specs.Order.{Shuffled}
+use Rattle.lists.specs.Placing.{passing, number, union, only, Apart, capped, Holds, Adds}
 use Rattle.lists.specs.KeepLaws.{keep-ext, keep-none, keep-length, keep-rising, total-either}
 use Rattle.lists.specs.OrderLaws.{rising-unique}
 
@@ -73,16 +72,17 @@ module _ (N : ℕ) where
   pub holds-same : (first slots : List ℕ) (P Q : ℕ → Bool) (count : ℕ) → ((x : ℕ) → x < N → P x ≡ Q x)
       → Holds N first P slots count → Holds N first Q slots count
   holds-same first slots P Q count e h = let same = passing-same P Q e in record {
-    counted = h .counted ∙ ap length same;
+    counted = h .counted ∙ ap (λ (t : List ℕ). capped (length t)) same;
     long = h .long;
-    kept = λ l. (λ z. h .kept l .0 z ∙ ap (times z) same, h .kept l .1);
+    kept = λ l. subst (λ (t : List ℕ). length t ≤ length first → Shuffled (take (length t) slots) t × (drop (length t) slots ≡ drop (length t) first)) same (h .kept) l;
   }
 
   pub holds-none : (first : List ℕ) (P : ℕ → Bool) → ((x : ℕ) → x < N → T (P x) → ⊥) → Holds N first P first 0
   holds-none first P f = record {
-    counted = sym (ap length (passing-none P f));
+    counted = sym (ap (λ (t : List ℕ). capped (length t)) (passing-none P f));
     long = refl;
-    kept = λ l. (λ z. sym (ap (times z) (passing-none P f)), refl);
+    kept = subst (λ (t : List ℕ). length t ≤ length first → Shuffled (take (length t) first) t × (drop (length t) first ≡ drop (length t) first)) (sym (passing-none P f))
+        (λ l. (λ z. refl, refl));
   }
 
   -- ---- steps that add
@@ -90,14 +90,12 @@ module _ (N : ℕ) where
   -- nothing is added where no mask passes: a cut
   pub adds-none : (Q : ℕ → Bool) (a : List ℕ) (m : ℕ) → ((x : ℕ) → x < N → T (Q x) → ⊥) → Adds N Q a m a m
   adds-none Q a m f = record {
-    counts = sym (ap (λ (t : List ℕ). m + length t) (passing-none Q f) ∙ add-zero m);
     holds = λ first P d h. holds-same first a P (union P Q) m (λ x l. or-false (P x) (Q x) (f x l)) h;
   }
 
   -- tests that are equal below N add the same
   pub adds-same : (Q R : ℕ → Bool) (a b : List ℕ) (m n : ℕ) → ((x : ℕ) → x < N → Q x ≡ R x) → Adds N Q a m b n → Adds N R a m b n
   adds-same Q R a b m n e s = record {
-    counts = s .counts ∙ ap (λ (t : List ℕ). m + length t) (passing-same Q R e);
     holds = λ first P d h.
         holds-same first b (union P Q) (union P R) n (λ x l. ap (λ (t : Bool). P x || t) (e x l))
         (s .holds first P (λ x l p q. d x l p (subst T (e x l) q)) h);
@@ -106,7 +104,6 @@ module _ (N : ℕ) where
   -- one step after the other, where the second adds what the first did not
   pub adds-both : (Q R : ℕ → Bool) (a b c : List ℕ) (m n o : ℕ) → Apart N Q R → Adds N Q a m b n → Adds N R b n c o → Adds N (union Q R) a m c o
   adds-both Q R a b c m n o d s t = record {
-    counts = omega (arith, t .counts, s .counts, number-union Q R d);
     holds = λ first P p h.
         holds-same first c (union (union P Q) R) (union P (union Q R)) o (λ x l. or-assoc (P x) (Q x) (R x))
         (t .holds first (union P Q) (λ x l u r. apart x l (p x l) (or-cases (P x) (Q x) u) r)

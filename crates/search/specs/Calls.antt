@@ -1,9 +1,9 @@
 -- What the call that lists answers, and what it leaves in the slots, for every input.
 --
 --   slotsCause room m        number 6: fewer slots than m
---   listReply g k q room     the answer: refused, or m, the number of maximal k-plexes of at least q members
+--   listReply g ask room     the answer to the request ask: refused, or m, the number of maximal k-plexes of at least q members
 --   placed l slots           the slots that are given the list l: l and behind it what they held, or all 0 where it does not fit
---   slotsAfter g k q slots   the slots at exit: as they were where the request is refused, else given the list
+--   slotsAfter g ask slots   the slots at exit: as they were where the request is refused, else given the list
 --   Lists                    both, as the call's promise
 use Prim.Native.Nat.{ℕ}
 use mathlib.Core.Path.{_≡_}
@@ -11,6 +11,7 @@ use mathlib.Core.Bool.{cond}
 use mathlib.Core.List.{List, [], _∷_, _++_}
 use lib.Dec.{leb, ltb}
 use lib.ListN.{length, drop, replicate}
+use Rattle.judging.specs.Request.{Request}
 use Rattle.judging.specs.Refusal.{Reply, refused, answered, Cause, cause, firstOf}
 use Rattle.judging.specs.Calls.{refusal, passed, requestCheck}
 use Rattle.lists.specs.Listing.{listing}
@@ -21,10 +22,10 @@ unfoldable pub slotsCause : ℕ → ℕ → Cause
 slotsCause room m = cause (ltb room m) 6 m
 
 -- 1, 2, 3, 4, 5, 6
-unfoldable pub listReply : List ℕ → ℕ → ℕ → ℕ → Reply (Unit {0})
-listReply g k q room =
-    let m = length (listing g k q) in
-    firstOf (requestCheck g k q ++ slotsCause room m ∷ []) (answered m tt)
+unfoldable pub listReply : List ℕ → Request → ℕ → Reply (Unit {0})
+listReply g ask room =
+    let m = length (listing g ask) in
+    firstOf (requestCheck g ask ++ slotsCause room m ∷ []) (answered m tt)
 
 unfoldable pub placed : List ℕ → List ℕ → List ℕ
 placed l slots = cond (leb (length l) (length slots)) (l ++ drop (length l) slots) (replicate (length slots) 0)
@@ -33,13 +34,13 @@ abbrev pub afterCheck : Reply (Unit {0}) → List ℕ → List ℕ → List ℕ
 afterCheck (refused n v) l slots = slots
 afterCheck (answered v u) l slots = placed l slots
 
-unfoldable pub slotsAfter : List ℕ → ℕ → ℕ → List ℕ → List ℕ
-slotsAfter g k q slots = afterCheck (firstOf (requestCheck g k q) passed) (listing g k q) slots
+unfoldable pub slotsAfter : List ℕ → Request → List ℕ → List ℕ
+slotsAfter g ask slots = afterCheck (firstOf (requestCheck g ask) passed) (listing g ask) slots
 
 abbrev pub listFoundReply : ListFound → Reply (Unit {0})
 listFoundReply (Listed m) = answered m tt
 listFoundReply (Refused f) = refusal f
 
-pub record Lists (g : List ℕ) (k q : ℕ) (before after : List ℕ) (r : ListFound) : Type 0 where
-  pub reply : listFoundReply r ≡ listReply g k q (length before)
-  pub slots : after ≡ slotsAfter g k q before
+pub record Lists (g : List ℕ) (ask : Request) (before after : List ℕ) (r : ListFound) : Type 0 where
+  pub reply : listFoundReply r ≡ listReply g ask (length before)
+  pub slots : after ≡ slotsAfter g ask before

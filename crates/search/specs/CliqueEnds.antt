@@ -15,6 +15,7 @@ use Rattle.sets.specs.Graph.{row}
 use Rattle.sets.specs.RangeLaws.{true-holds, false-fails}
 use Rattle.sets.specs.BitLaws.{ext, bit-le, bit-and, bit-minus, bit-high, bit-pow-same, bit-pow-other}
 use Rattle.sets.specs.SubsetLaws.{has-in, in-has, in-below, with-same, with-other, without-same, without-other, positive-of}
+use Rattle.judging.specs.Request.{Request}
 use Rattle.search.specs.Choice.{Pickable}
 use Rattle.search.specs.Found.{found}
 use Rattle.lists.specs.Placing.{Adds}
@@ -52,16 +53,16 @@ two-left c u d v e i ed j ee z = (ext c (with (2 ^ u) v) (λ w. go w (ℕ-discre
         omega (arith, with-other (2 ^ u) v w p, bit-pow-other u w n, without-other c u w n, ap (λ (x : ℕ). bit x w) ed, without-other d v w p, no-bit (without d v) w (sym ee ∙ z))
 
 -- the candidates under another name
-pub taking-at : (g : List ℕ) (q have s c d m count : ℕ) → c ≡ d → Taking g q have s c m count → Taking g q have s d m count
-taking-at g q have s c d m count e h = subst (λ (y : ℕ). Taking g q have s y m count) e h
+pub taking-at : (g : List ℕ) (ask : Request) (have s c d m count : ℕ) → c ≡ d → Taking g ask have s c m count → Taking g ask have s d m count
+taking-at g ask have s c d m count e h = subst (λ (y : ℕ). Taking g ask have s y m count) e h
 
-pub adds-at : (g : List ℕ) (q s c d count : ℕ) (before after : List ℕ) (o : ℕ) → c ≡ d → Adds (2 ^ length g) (found g 1 q s d) before count after o
-    → Adds (2 ^ length g) (found g 1 q s c) before count after o
-adds-at g q s c d count before after o e x = subst (λ (y : ℕ). Adds (2 ^ length g) (found g 1 q s y) before count after o) (sym e) x
+pub adds-at : (g : List ℕ) (ask : Request) (s c d count : ℕ) (before after : List ℕ) (o : ℕ) → c ≡ d
+    → Adds (2 ^ length g) (found g ask s d) before count after o → Adds (2 ^ length g) (found g ask s c) before count after o
+adds-at g ask s c d count before after o e x = subst (λ (y : ℕ). Adds (2 ^ length g) (found g ask s y) before count after o) (sym e) x
 
 -- with a candidate there is a common neighbour to be the pivot
-pub taking-pickable : (g : List ℕ) (q have s c m count : ℕ) → Taking g q have s c m count → (u : ℕ) → In u c → Pickable g m
-taking-pickable g q have s c m count h u i =
+pub taking-pickable : (g : List ℕ) (ask : Request) (have s c m count : ℕ) → Taking g ask have s c m count → (u : ℕ) → In u c → Pickable g m
+taking-pickable g ask have s c m count h u i =
     record { some = positive-of m (λ e. omega (arith, i, h .part u, no-bit m u e)); below = h .common .below }
 
 -- where all are to be taken none waits
@@ -89,18 +90,18 @@ row-lacks r w v b e t h = subst (λ (y : ℕ). bit y v ≡ 0) e (go (ℕ-discret
 -- ---- no candidate
 
 -- a clique with common neighbours and no candidate among them is not maximal
-pub end-none : (g : List ℕ) (q have s m count : ℕ) → Taking g q have s 0 m count → 0 < m → (slots : List ℕ)
-    → Adds (2 ^ length g) (found g 1 q s 0) slots count slots count
-end-none g q have s m count h l slots =
-    next-adds g q have s 0 m count h 0 (minus 0 0) refl cover slots slots count
-    (done-adds g q have s (minus 0 0) m 0 count (next-sweeping g q have s 0 m count h 0 (minus 0 0) refl cover) refl slots)
+pub end-none : (g : List ℕ) (ask : Request) (have s m count : ℕ) → Taking g ask have s 0 m count → 0 < m → (slots : List ℕ)
+    → Adds (2 ^ length g) (found g ask s 0) slots count slots count
+end-none g ask have s m count h l slots =
+    next-adds g ask have s 0 m count h 0 (minus 0 0) refl cover slots slots count
+    (done-adds g ask have s (minus 0 0) m 0 count (next-sweeping g ask have s 0 m count h 0 (minus 0 0) refl cover) refl slots)
   where
     cover : Covering g 0 m 0
     cover = all-cover g 0 m (record { some = l; below = h .common .below })
 
 -- ---- one candidate
 
-module _ (g : List ℕ) (q have s v m count : ℕ) (h : Taking g q have s (2 ^ v) m count) where
+module _ (g : List ℕ) (ask : Request) (have s v m count : ℕ) (h : Taking g ask have s (2 ^ v) m count) where
   one-near : In v m
   one-near = omega (arith, h .part v, bit-pow-same v, bit-le m v)
 
@@ -108,29 +109,29 @@ module _ (g : List ℕ) (q have s v m count : ℕ) (h : Taking g q have s (2 ^ v
   one-vertex = in-below (length g) m v (h .common .below) one-near
 
   one-cover : Covering g (2 ^ v) m (2 ^ v)
-  one-cover = all-cover g (2 ^ v) m (taking-pickable g q have s (2 ^ v) m count h v (bit-pow-same v))
+  one-cover = all-cover g (2 ^ v) m (taking-pickable g ask have s (2 ^ v) m count h v (bit-pow-same v))
 
-  one-start : (slots : List ℕ) → Swept g q have s (minus (2 ^ v) (2 ^ v)) m (2 ^ v) slots count (minus (2 ^ v) (2 ^ v)) (2 ^ v) slots count
+  one-start : (slots : List ℕ) → Swept g ask have s (minus (2 ^ v) (2 ^ v)) m (2 ^ v) slots count (minus (2 ^ v) (2 ^ v)) (2 ^ v) slots count
   one-start slots =
-      swept-none g q have s (minus (2 ^ v) (2 ^ v)) m (2 ^ v) slots count
-      (next-sweeping g q have s (2 ^ v) m count h (2 ^ v) (minus (2 ^ v) (2 ^ v)) refl one-cover)
+      swept-none g ask have s (minus (2 ^ v) (2 ^ v)) m (2 ^ v) slots count
+      (next-sweeping g ask have s (2 ^ v) m count h (2 ^ v) (minus (2 ^ v) (2 ^ v)) refl one-cover)
 
-  pub one-taking : (a j w : ℕ) → a ≡ have + 1 → j ≡ with s v → w ≡ bitAnd m (row g v) → Taking g q a j 0 w count
+  pub one-taking : (a j w : ℕ) → a ≡ have + 1 → j ≡ with s v → w ≡ bitAnd m (row g v) → Taking g ask a j 0 w count
   one-taking =
-      swept-taking g q have s (minus (2 ^ v) (2 ^ v)) m (2 ^ v) [] count (minus (2 ^ v) (2 ^ v)) (2 ^ v) [] count (one-start []) v (bit-pow-same v) 0
+      swept-taking g ask have s (minus (2 ^ v) (2 ^ v)) m (2 ^ v) [] count (minus (2 ^ v) (2 ^ v)) (2 ^ v) [] count (one-start []) v (bit-pow-same v) 0
       (with (minus (2 ^ v) (2 ^ v)) v) (without (2 ^ v) v) (none-waits (2 ^ v) (row g v)) refl refl
 
-  pub one-adds : (j : ℕ) → j ≡ with s v → (before after : List ℕ) (o : ℕ) → Adds (2 ^ length g) (found g 1 q j 0) before count after o
-      → Adds (2 ^ length g) (found g 1 q s (2 ^ v)) before count after o
+  pub one-adds : (j : ℕ) → j ≡ with s v → (before after : List ℕ) (o : ℕ) → Adds (2 ^ length g) (found g ask j 0) before count after o
+      → Adds (2 ^ length g) (found g ask s (2 ^ v)) before count after o
   one-adds j z before after o x =
-      next-adds g q have s (2 ^ v) m count h (2 ^ v) (minus (2 ^ v) (2 ^ v)) refl one-cover before after o
-      (swept-all g q have s (minus (2 ^ v) (2 ^ v)) m (2 ^ v) before count (with (minus (2 ^ v) (2 ^ v)) v) (without (2 ^ v) v) after o
-      (swept-more g q have s (minus (2 ^ v) (2 ^ v)) m (2 ^ v) before count (minus (2 ^ v) (2 ^ v)) (2 ^ v) before count (one-start before) v (bit-pow-same v) 0
-      (with (minus (2 ^ v) (2 ^ v)) v) (without (2 ^ v) v) (none-waits (2 ^ v) (row g v)) refl refl j z after o x) (none-left v))
+      next-adds g ask have s (2 ^ v) m count h (2 ^ v) (minus (2 ^ v) (2 ^ v)) refl one-cover before after o
+      (swept-all g ask have s (minus (2 ^ v) (2 ^ v)) m (2 ^ v) before count (with (minus (2 ^ v) (2 ^ v)) v) (without (2 ^ v) v) after o
+      (swept-more g ask have s (minus (2 ^ v) (2 ^ v)) m (2 ^ v) before count (minus (2 ^ v) (2 ^ v)) (2 ^ v) before count (one-start before)
+      v (bit-pow-same v) 0 (with (minus (2 ^ v) (2 ^ v)) v) (without (2 ^ v) v) (none-waits (2 ^ v) (row g v)) refl refl j z after o x) (none-left v))
 
 -- ---- two candidates
 
-module _ (g : List ℕ) (q have s u v c m count : ℕ) (two : c ≡ with (2 ^ u) v) (apart : u ≢ v) (h : Taking g q have s c m count) where
+module _ (g : List ℕ) (ask : Request) (have s u v c m count : ℕ) (two : c ≡ with (2 ^ u) v) (apart : u ≢ v) (h : Taking g ask have s c m count) where
   first-in : In u c
   first-in = omega (arith, ap (λ (y : ℕ). bit y u) two, with-other (2 ^ u) v u (λ e. apart (sym e)), bit-pow-same u)
 
@@ -166,9 +167,9 @@ module _ (g : List ℕ) (q have s u v c m count : ℕ) (two : c ≡ with (2 ^ u)
         part w (yes e) = subst (λ (y : ℕ). bit (2 ^ u) y ≤ bit c y) e (omega (arith, bit-pow-same u, first-in))
         part w (no n) = omega (arith, bit-pow-other u w n)
 
-    both-start : (slots : List ℕ) → Swept g q have s (minus c (2 ^ u)) m (2 ^ u) slots count (minus c (2 ^ u)) (2 ^ u) slots count
+    both-start : (slots : List ℕ) → Swept g ask have s (minus c (2 ^ u)) m (2 ^ u) slots count (minus c (2 ^ u)) (2 ^ u) slots count
     both-start slots =
-        swept-none g q have s (minus c (2 ^ u)) m (2 ^ u) slots count (next-sweeping g q have s c m count h (2 ^ u) (minus c (2 ^ u)) refl both-cover)
+        swept-none g ask have s (minus c (2 ^ u)) m (2 ^ u) slots count (next-sweeping g ask have s c m count h (2 ^ u) (minus c (2 ^ u)) refl both-cover)
 
     waits : 2 ^ v ≡ bitAnd (minus c (2 ^ u)) (row g u)
     waits = ext (2 ^ v) (bitAnd (minus c (2 ^ u)) (row g u)) (λ w. go w (ℕ-discrete v w) (ℕ-discrete u w))
@@ -183,36 +184,36 @@ module _ (g : List ℕ) (q have s u v c m count : ℕ) (two : c ≡ with (2 ^ u)
         go w (no n) (no p) =
             omega (arith, bit-pow-other v w n, bit-and (minus c (2 ^ u)) (row g u) w, bit-minus c (2 ^ u) w, other w p n)
 
-    pub both-taking : (a j w : ℕ) → a ≡ have + 1 → j ≡ with s u → w ≡ bitAnd m (row g u) → Taking g q a j (2 ^ v) w count
+    pub both-taking : (a j w : ℕ) → a ≡ have + 1 → j ≡ with s u → w ≡ bitAnd m (row g u) → Taking g ask a j (2 ^ v) w count
     both-taking =
-        swept-taking g q have s (minus c (2 ^ u)) m (2 ^ u) [] count (minus c (2 ^ u)) (2 ^ u) [] count (both-start []) u (bit-pow-same u) (2 ^ v)
+        swept-taking g ask have s (minus c (2 ^ u)) m (2 ^ u) [] count (minus c (2 ^ u)) (2 ^ u) [] count (both-start []) u (bit-pow-same u) (2 ^ v)
         (with (minus c (2 ^ u)) u) (without (2 ^ u) u) waits refl refl
 
-    pub both-adds : (j : ℕ) → j ≡ with s u → (before after : List ℕ) (o : ℕ) → Adds (2 ^ length g) (found g 1 q j (2 ^ v)) before count after o
-        → Adds (2 ^ length g) (found g 1 q s c) before count after o
+    pub both-adds : (j : ℕ) → j ≡ with s u → (before after : List ℕ) (o : ℕ) → Adds (2 ^ length g) (found g ask j (2 ^ v)) before count after o
+        → Adds (2 ^ length g) (found g ask s c) before count after o
     both-adds j z before after o x =
-        next-adds g q have s c m count h (2 ^ u) (minus c (2 ^ u)) refl both-cover before after o
-        (swept-all g q have s (minus c (2 ^ u)) m (2 ^ u) before count (with (minus c (2 ^ u)) u) (without (2 ^ u) u) after o
-        (swept-more g q have s (minus c (2 ^ u)) m (2 ^ u) before count (minus c (2 ^ u)) (2 ^ u) before count (both-start before) u (bit-pow-same u) (2 ^ v)
+        next-adds g ask have s c m count h (2 ^ u) (minus c (2 ^ u)) refl both-cover before after o
+        (swept-all g ask have s (minus c (2 ^ u)) m (2 ^ u) before count (with (minus c (2 ^ u)) u) (without (2 ^ u) u) after o
+        (swept-more g ask have s (minus c (2 ^ u)) m (2 ^ u) before count (minus c (2 ^ u)) (2 ^ u) before count (both-start before) u (bit-pow-same u) (2 ^ v)
         (with (minus c (2 ^ u)) u) (without (2 ^ u) u) waits refl refl j z after o x) (none-left u))
 
   -- where they are not, each is taken by itself
   module _ (away : bit (row g u) v ≡ 0) where
     each-cover : Covering g c m c
-    each-cover = all-cover g c m (taking-pickable g q have s c m count h u first-in)
+    each-cover = all-cover g c m (taking-pickable g ask have s c m count h u first-in)
 
-    each-start : (slots : List ℕ) → Swept g q have s (minus c c) m c slots count (minus c c) c slots count
-    each-start slots = swept-none g q have s (minus c c) m c slots count (next-sweeping g q have s c m count h c (minus c c) refl each-cover)
+    each-start : (slots : List ℕ) → Swept g ask have s (minus c c) m c slots count (minus c c) c slots count
+    each-start slots = swept-none g ask have s (minus c c) m c slots count (next-sweeping g ask have s c m count h c (minus c c) refl each-cover)
 
-    pub first-taking : (a j w : ℕ) → a ≡ have + 1 → j ≡ with s u → w ≡ bitAnd m (row g u) → Taking g q a j 0 w count
+    pub first-taking : (a j w : ℕ) → a ≡ have + 1 → j ≡ with s u → w ≡ bitAnd m (row g u) → Taking g ask a j 0 w count
     first-taking =
-        swept-taking g q have s (minus c c) m c [] count (minus c c) c [] count (each-start []) u first-in 0
+        swept-taking g ask have s (minus c c) m c [] count (minus c c) c [] count (each-start []) u first-in 0
         (with (minus c c) u) (without c u) (none-waits c (row g u)) refl refl
 
-    module _ (j : ℕ) (z : j ≡ with s u) (before between : List ℕ) (n : ℕ) (x : Adds (2 ^ length g) (found g 1 q j 0) before count between n) where
-      once : Swept g q have s (minus c c) m c before count (with (minus c c) u) (without c u) between n
+    module _ (j : ℕ) (z : j ≡ with s u) (before between : List ℕ) (n : ℕ) (x : Adds (2 ^ length g) (found g ask j 0) before count between n) where
+      once : Swept g ask have s (minus c c) m c before count (with (minus c c) u) (without c u) between n
       once =
-          swept-more g q have s (minus c c) m c before count (minus c c) c before count (each-start before) u first-in 0
+          swept-more g ask have s (minus c c) m c before count (minus c c) c before count (each-start before) u first-in 0
           (with (minus c c) u) (without c u) (none-waits c (row g u)) refl refl j z between n x
 
       left-in : In v (without c u)
@@ -228,17 +229,17 @@ module _ (g : List ℕ) (q have s u v c m count : ℕ) (two : c ≡ with (2 ^ u)
           go w (no n2) =
               omega (arith, bit-and (with (minus c c) u) (row g v) w, with-other (minus c c) u w n2, bit-minus c c w, bit-le c w)
 
-      pub second-taking : (a i w : ℕ) → a ≡ have + 1 → i ≡ with s v → w ≡ bitAnd m (row g v) → Taking g q a i 0 w n
+      pub second-taking : (a i w : ℕ) → a ≡ have + 1 → i ≡ with s v → w ≡ bitAnd m (row g v) → Taking g ask a i 0 w n
       second-taking =
-          swept-taking g q have s (minus c c) m c before count (with (minus c c) u) (without c u) between n once v left-in 0
+          swept-taking g ask have s (minus c c) m c before count (with (minus c c) u) (without c u) between n once v left-in 0
           (with (with (minus c c) u) v) (without (without c u) v) none-beside refl refl
 
-      pub each-adds : (i : ℕ) → i ≡ with s v → (after : List ℕ) (o : ℕ) → Adds (2 ^ length g) (found g 1 q i 0) between n after o
-          → Adds (2 ^ length g) (found g 1 q s c) before count after o
+      pub each-adds : (i : ℕ) → i ≡ with s v → (after : List ℕ) (o : ℕ) → Adds (2 ^ length g) (found g ask i 0) between n after o
+          → Adds (2 ^ length g) (found g ask s c) before count after o
       each-adds i y after o d =
-          next-adds g q have s c m count h c (minus c c) refl each-cover before after o
-          (swept-all g q have s (minus c c) m c before count (with (with (minus c c) u) v) (without (without c u) v) after o
-          (swept-more g q have s (minus c c) m c before count (with (minus c c) u) (without c u) between n once v left-in 0
+          next-adds g ask have s c m count h c (minus c c) refl each-cover before after o
+          (swept-all g ask have s (minus c c) m c before count (with (with (minus c c) u) v) (without (without c u) v) after o
+          (swept-more g ask have s (minus c c) m c before count (with (minus c c) u) (without c u) between n once v left-in 0
           (with (with (minus c c) u) v) (without (without c u) v) none-beside refl refl i y after o d) gone)
         where
           gone : without (without c u) v ≡ 0

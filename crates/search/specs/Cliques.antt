@@ -3,7 +3,7 @@
 --   Common g s m         m are the vertices that are adjacent to every member of s
 --   Covering g c m r     r are candidates of c, among them all that some vertex of m, the pivot, is not adjacent to
 --   Pivoting g c m l b   b are such candidates, and the vertices l of m are still to be looked at
---   touched g q s b t x  x is listed, holds s, has no member outside s, b and t, and has one in t
+--   touched g ask s b t x  x is listed, holds s, has no member outside s, b and t, and has one in t
 --   Sweeping, Taking     what the calls of the search rely on: s is a clique of `have` members, m its common neighbours, and b and t are apart
 --                        and candidates among them
 use Prim.Native.Nat.{ℕ, _+_, _^_, _≤_, _<_}
@@ -17,17 +17,19 @@ use mathlib.Core.List.{List}
 use lib.Bits.{bitAnd, bitOr}
 use lib.Dec.{T, eqb, ltb, eqb→eq, eqb-refl, T-not, not-T}
 use lib.Count.{ones-le}
-use lib.Pow.{pow-pos}
+use lib.Pow.{pow-pos, ones-lt}
 use lib.ListN.{length}
 use borrow.Author.Tests.{lt-ltb, le-ltb}
-use Rattle.sets.specs.Set.{bit, In, Sub, size, with, without, minus}
+use Rattle.sets.specs.Set.{bit, In, Sub, size, with, without, minus, full}
 use Rattle.sets.specs.Graph.{row}
 use Rattle.sets.specs.Words.{width}
 use Rattle.sets.specs.BitLaws.{ext, bit-le, bit-and, bit-or, bit-minus, bit-high, bit-pow-other}
 use Rattle.sets.specs.RangeLaws.{and-left, and-right, both, or-cases, or-left, or-right}
 use Rattle.sets.specs.SubsetLaws.{sub-refl, sub-trans, sub-number, in-of-sub, in-below, with-sub, with-same, with-other, with-below, sub-with, without-same, without-other, minus-sub, positive-of}
 use Rattle.sets.specs.SizeLaws.{positive-size, size-one, size-mono, size-or, size-with, some-member, two-members, and-below}
-use Rattle.sets.specs.WalkLaws.{without-less}
+use Rattle.sets.specs.WordLaws.{bit-full}
+use Rattle.sets.specs.WalkLaws.{Walked, walk-none, walk-map, walk-next, walk-all, without-less}
+use Rattle.judging.specs.Request.{Request}
 use Rattle.judging.specs.Graph.{missing, Valid}
 use Rattle.judging.specs.Plex.{Plex, Maximal}
 use Rattle.judging.specs.GraphLaws.{missing-with}
@@ -54,39 +56,34 @@ pub record Pivoting (g : List ℕ) (c m left best : ℕ) : Type 0 where
   pub cover : Covering g c m best
   pub part : Sub left m
 
-unfoldable pub touched : List ℕ → ℕ → ℕ → ℕ → ℕ → ℕ → Bool
-touched g q s b t x = found g 1 q s (bitOr b t) x && not (eqb (bitAnd x t) 0)
+unfoldable pub touched : List ℕ → Request → ℕ → ℕ → ℕ → ℕ → Bool
+touched g ask s b t x = found g ask s (bitOr b t) x && not (eqb (bitAnd x t) 0)
 
-pub record Sweeping (g : List ℕ) (q have s b m t count : ℕ) : Type 0 where
+pub record Sweeping (g : List ℕ) (ask : Request) (have s b m t count : ℕ) : Type 0 where
   pub some : 1 ≤ length g
   pub most : length g ≤ width
   pub valid : Valid g
-  pub floor : q ≤ width
+  pub slack : ask .slack ≡ 1
+  pub floor : ask .floor ≤ width
   pub below : s < 2 ^ length g
   pub counted : have ≡ size s
   pub clique : Plex g 1 s
   pub common : Common g s m
   pub part : Sub (bitOr b t) m
   pub apart : (v : ℕ) → In v t → bit b v ≡ 0
-  pub room : count + number (2 ^ length g) (touched g q s b t) < 2 ^ 64
 
 -- the same once a clique s has grown, with candidates c among its common neighbours m
-pub record Taking (g : List ℕ) (q have s c m count : ℕ) : Type 0 where
+pub record Taking (g : List ℕ) (ask : Request) (have s c m count : ℕ) : Type 0 where
   pub some : 1 ≤ length g
   pub most : length g ≤ width
   pub valid : Valid g
-  pub floor : q ≤ width
+  pub slack : ask .slack ≡ 1
+  pub floor : ask .floor ≤ width
   pub below : s < 2 ^ length g
   pub counted : have ≡ size s
   pub clique : Plex g 1 s
   pub common : Common g s m
   pub part : Sub c m
-  pub room : count + number (2 ^ length g) (found g 1 q s c) < 2 ^ 64
-
--- what placing a clique relies on
-pub record Placeable (n q have s count : ℕ) : Type 0 where
-  pub below : s < 2 ^ n
-  pub room : q ≤ have → count + 1 < 2 ^ 64
 
 -- ---- cliques
 
@@ -131,12 +128,12 @@ module _ (g : List ℕ) (ok : Valid g) where
 
 -- ---- the pivot
 
-module _ (g : List ℕ) (k q s c m r : ℕ) (ok : Valid g) (lk : 1 ≤ k) (near : Common g s m) (cover : Covering g c m r) where
+module _ (g : List ℕ) (ask : Request) (s c m r : ℕ) (ok : Valid g) (lk : 1 ≤ ask .slack) (near : Common g s m) (cover : Covering g c m r) where
   lp : cover .pivot < length g
   lp = in-below (length g) m (cover .pivot) (near .below) (cover .member)
 
   -- every plex to be found holds the pivot or a vertex that the pivot is not adjacent to: else the pivot could be added to it
-  pub pivot-hits : (x : ℕ) → Found g k q s c x → (u : ℕ) × In u x × In u r
+  pub pivot-hits : (x : ℕ) → Found g ask s c x → (u : ℕ) × In u x × In u r
   pivot-hits x f = go (decLt 0 (size (bitAnd x r)))
     where
       lx : x < 2 ^ length g
@@ -146,7 +143,9 @@ module _ (g : List ℕ) (k q s c m r : ℕ) (ok : Valid g) (lk : 1 ≤ k) (near 
       go (yes l) =
           let w = some-member (bitAnd x r) l in
           (w .0, omega (arith, bit-and x r (w .0), w .1, bit-le x (w .0)), omega (arith, bit-and x r (w .0), w .1, bit-le r (w .0)))
-      go (no nl) = absurd (one-by-maximal g k x lx (f .listed .top) (cover .pivot) lp outside (neighbour-adds g ok k x (cover .pivot) lk lx lp (f .listed .top .0) outside adjacent-all))
+      go (no nl) =
+          absurd (one-by-maximal g (ask .slack) x lx (f .listed .top) (cover .pivot) lp outside
+          (neighbour-adds g ok (ask .slack) x (cover .pivot) lk lx lp (f .listed .top .0) outside adjacent-all))
         where
           missed : (u : ℕ) → In u x → In u r → ⊥
           missed u i j =
@@ -187,47 +186,47 @@ module _ (g : List ℕ) (k q s c m r : ℕ) (ok : Valid g) (lk : 1 ≤ k) (near 
 
 -- ---- the test and the statement
 
-module _ (g : List ℕ) (q s b t : ℕ) where
-  pub touched-holds : (x : ℕ) → x < 2 ^ length g → T (touched g q s b t x) → Found g 1 q s (bitOr b t) x × (u : ℕ) × In u x × In u t
+module _ (g : List ℕ) (ask : Request) (s b t : ℕ) where
+  pub touched-holds : (x : ℕ) → x < 2 ^ length g → T (touched g ask s b t x) → Found g ask s (bitOr b t) x × (u : ℕ) × In u x × In u t
   unfolding touched
   touched-holds x l h =
-      let f = found-holds g 1 q s (bitOr b t) x l (and-left (found g 1 q s (bitOr b t) x) (not (eqb (bitAnd x t) 0)) h) in
-      let w = some-member (bitAnd x t) (positive-size (bitAnd x t) (nonzero (bitAnd x t) (and-right (found g 1 q s (bitOr b t) x) (not (eqb (bitAnd x t) 0)) h))) in
+      let f = found-holds g ask s (bitOr b t) x l (and-left (found g ask s (bitOr b t) x) (not (eqb (bitAnd x t) 0)) h) in
+      let w = some-member (bitAnd x t) (positive-size (bitAnd x t) (nonzero (bitAnd x t) (and-right (found g ask s (bitOr b t) x) (not (eqb (bitAnd x t) 0)) h))) in
       (f, w .0, omega (arith, bit-and x t (w .0), w .1, bit-le x (w .0)), omega (arith, bit-and x t (w .0), w .1, bit-le t (w .0)))
     where
       nonzero : (y : ℕ) → T (not (eqb y 0)) → 0 < y
       nonzero y z = positive-of y (λ e. T-not (eqb y 0) z (subst (λ (u : ℕ). T (eqb y u)) e (eqb-refl y)))
 
-  pub touched-test : (x u : ℕ) → Found g 1 q s (bitOr b t) x → In u x → In u t → T (touched g q s b t x)
+  pub touched-test : (x u : ℕ) → Found g ask s (bitOr b t) x → In u x → In u t → T (touched g ask s b t x)
   unfolding touched
   touched-test x u f i j =
-      both (found g 1 q s (bitOr b t) x) (not (eqb (bitAnd x t) 0)) (found-test g 1 q s (bitOr b t) x f)
+      both (found g ask s (bitOr b t) x) (not (eqb (bitAnd x t) 0)) (found-test g ask s (bitOr b t) x f)
       (not-T (eqb (bitAnd x t) 0) (λ z.
       omega (arith, i, j, bit-and x t u, subst (λ (y : ℕ). bit y u ≡ 0) (sym (eqb→eq (bitAnd x t) 0 z)) (bit-high 0 u (pow-pos u)))))
 
 -- where what is to be found in c meets d, a part of c, it is what is touched by d
-module _ (g : List ℕ) (q s c d : ℕ) (part : Sub d c) (hits : (x : ℕ) → Found g 1 q s c x → (u : ℕ) × In u x × In u d) where
+module _ (g : List ℕ) (ask : Request) (s c d : ℕ) (part : Sub d c) (hits : (x : ℕ) → Found g ask s c x → (u : ℕ) × In u x × In u d) where
   both-parts : bitOr (minus c d) d ≡ c
   both-parts = ext (bitOr (minus c d) d) c (λ u. omega (arith, bit-or (minus c d) d u, bit-minus c d u, part u, bit-le c u))
 
-  pub touched-all : (x : ℕ) → x < 2 ^ length g → touched g q s (minus c d) d x ≡ found g 1 q s c x
+  pub touched-all : (x : ℕ) → x < 2 ^ length g → touched g ask s (minus c d) d x ≡ found g ask s c x
   touched-all x l =
-      same-test (touched g q s (minus c d) d x) (found g 1 q s c x)
-      (λ z. found-test g 1 q s c x (subst (λ (y : ℕ). Found g 1 q s y x) both-parts (touched-holds g q s (minus c d) d x l z .0)))
-      (λ z. let f = found-holds g 1 q s c x l z in let w = hits x f in
-      touched-test g q s (minus c d) d x (w .0) (subst (λ (y : ℕ). Found g 1 q s y x) (sym both-parts) f) (w .1) (w .2))
+      same-test (touched g ask s (minus c d) d x) (found g ask s c x)
+      (λ z. found-test g ask s c x (subst (λ (y : ℕ). Found g ask s y x) both-parts (touched-holds g ask s (minus c d) d x l z .0)))
+      (λ z. let f = found-holds g ask s c x l z in let w = hits x f in
+      touched-test g ask s (minus c d) d x (w .0) (subst (λ (y : ℕ). Found g ask s y x) (sym both-parts) f) (w .1) (w .2))
 
 -- ---- a sweep
 
-module _ (g : List ℕ) (q have s b m t count : ℕ) (h : Sweeping g q have s b m t count) where
+module _ (g : List ℕ) (ask : Request) (have s b m t count : ℕ) (h : Sweeping g ask have s b m t count) where
   pub sweep-fits : have ≤ width
   sweep-fits = omega (arith, h .counted, ones-le (length g) s (h .below), h .most)
 
   -- nothing is left to be taken
-  pub done-adds : t ≡ 0 → (slots : List ℕ) → Adds (2 ^ length g) (touched g q s b t) slots count slots count
+  pub done-adds : t ≡ 0 → (slots : List ℕ) → Adds (2 ^ length g) (touched g ask s b t) slots count slots count
   done-adds z slots =
-      adds-none (2 ^ length g) (touched g q s b t) slots count (λ x l k.
-      let w = touched-holds g q s b t x l k in
+      adds-none (2 ^ length g) (touched g ask s b t) slots count (λ x l k.
+      let w = touched-holds g ask s b t x l k in
       omega (arith, w .3, subst (λ (y : ℕ). bit y (w .1) ≡ 0) (sym z) (bit-high 0 (w .1) (pow-pos (w .1)))))
 
   out-of : (u : ℕ) → In u m → bit s u ≡ 0
@@ -270,7 +269,7 @@ module _ (g : List ℕ) (q have s b m t count : ℕ) (h : Sweeping g q have s b 
           (in-of-sub (without t v) t u (minus-sub t (2 ^ v)) k, λ z. omega (arith, k, subst (λ (y : ℕ). bit (without t v) y ≡ 0) z (without-same t v)))
 
       -- the highest member of t being v
-      taken : (x : ℕ) → Found g 1 q s (bitOr b t) x → In v x → ((u : ℕ) → In u x → In u t2 → ⊥) → Found g 1 q (with s v) r x
+      taken : (x : ℕ) → Found g ask s (bitOr b t) x → In v x → ((u : ℕ) → In u x → In u t2 → ⊥) → Found g ask (with s v) r x
       taken x f j none =
           record { lower = with-sub s v x (f .lower) j; upper = λ u. each u (ℕ-discrete (bit x u) 1) (ℕ-discrete v u); listed = f .listed }
         where
@@ -284,11 +283,12 @@ module _ (g : List ℕ) (q have s b m t count : ℕ) (h : Sweeping g q have s b 
               side (no n) (yes y) = absurd (none u k (subst (In u) (sym et) (omega (arith, without-other t v u nz))))
               side (no n) (no n2) =
                   let inb : In u b = omega (arith, f .upper u, bit-or s (bitOr b t) u, bit-or b t u, bit-le s u, bit-le t u, bit-le b u) in
-                  let adj : In u (row g v) = clique-adjacent g (h .valid) x v u (f .listed .below) (f .listed .top .0) j k nz in
+                  let clique : Plex g 1 x = subst (λ (a : ℕ). Plex g a x) (h .slack) (f .listed .top .0) in
+                  let adj : In u (row g v) = clique-adjacent g (h .valid) x v u (f .listed .below) clique j k nz in
                   let inr : In u r = subst (In u) (sym e) (omega (arith, bit-and b (row g v) u)) in
                   omega (arith, bit-or (with s v) r u, inr, bit-le x u)
 
-      given : (x : ℕ) → Found g 1 q (with s v) r x → Found g 1 q s (bitOr b t) x
+      given : (x : ℕ) → Found g ask (with s v) r x → Found g ask s (bitOr b t) x
       given x f =
           record { lower = sub-trans s (with s v) x (sub-with s v) (f .lower); upper = λ u. each u (ℕ-discrete v u) (ℕ-discrete (bit r u) 1); listed = f .listed }
         where
@@ -299,10 +299,10 @@ module _ (g : List ℕ) (q have s b m t count : ℕ) (h : Sweeping g q have s b 
           each u (no nz) (no nj) =
               omega (arith, f .upper u, bit-or (with s v) r u, with-other s v u nz, bit-or s (bitOr b t) u, bit-le r u)
 
-      sweep-apart : Apart (2 ^ length g) (found g 1 q (with s v) r) (touched g q s b2 t2)
+      sweep-apart : Apart (2 ^ length g) (found g ask (with s v) r) (touched g ask s b2 t2)
       sweep-apart x l y z =
-          let f = found-holds g 1 q (with s v) r x l y in
-          let w = touched-holds g q s b2 t2 x l z in
+          let f = found-holds g ask (with s v) r x l y in
+          let w = touched-holds g ask s b2 t2 x l z in
           let k = left-t (w .1) (w .3) in
           let inm : In (w .1) m = omega (arith, h .part (w .1), bit-or b t (w .1), k .0, bit-le m (w .1)) in
           meet (w .1) (w .2) (k .0) (out-of (w .1) inm) (with-other s v (w .1) (k .1)) (f .upper (w .1)) (ℕ-discrete (bit r (w .1)) 1)
@@ -311,29 +311,30 @@ module _ (g : List ℕ) (q have s b m t count : ℕ) (h : Sweeping g q have s b 
           meet u j k o w up (yes y) = omega (arith, h .apart u k, bit-r u y)
           meet u j k o w up (no n) = omega (arith, bit-or (with s v) r u, bit-le r u)
 
-      sweep-split : (x : ℕ) → x < 2 ^ length g → union (found g 1 q (with s v) r) (touched g q s b2 t2) x ≡ touched g q s b t x
+      sweep-split : (x : ℕ) → x < 2 ^ length g → union (found g ask (with s v) r) (touched g ask s b2 t2) x ≡ touched g ask s b t x
       sweep-split x l =
-          same-test (union (found g 1 q (with s v) r) (touched g q s b2 t2) x) (touched g q s b t x)
-          (λ y. back (or-cases (found g 1 q (with s v) r x) (touched g q s b2 t2 x) y))
-          (λ y. into (touched-holds g q s b t x l y) (decLt 0 (size (bitAnd x t2))))
+          same-test (union (found g ask (with s v) r) (touched g ask s b2 t2) x) (touched g ask s b t x)
+          (λ y. back (or-cases (found g ask (with s v) r x) (touched g ask s b2 t2 x) y))
+          (λ y. into (touched-holds g ask s b t x l y) (decLt 0 (size (bitAnd x t2))))
         where
-          back : T (found g 1 q (with s v) r x) ⊎ T (touched g q s b2 t2 x) → T (touched g q s b t x)
+          back : T (found g ask (with s v) r x) ⊎ T (touched g ask s b2 t2 x) → T (touched g ask s b t x)
           back (inl y) =
-              let f = found-holds g 1 q (with s v) r x l y in
-              touched-test g q s b t x v (given x f) (omega (arith, f .lower v, with-same s v, bit-le x v)) i
+              let f = found-holds g ask (with s v) r x l y in
+              touched-test g ask s b t x v (given x f) (omega (arith, f .lower v, with-same s v, bit-le x v)) i
           back (inr y) =
-              let w = touched-holds g q s b2 t2 x l y in
-              touched-test g q s b t x (w .1) (subst (λ (z : ℕ). Found g 1 q s z x) same-candidates (w .0)) (w .2) (left-t (w .1) (w .3) .0)
+              let w = touched-holds g ask s b2 t2 x l y in
+              touched-test g ask s b t x (w .1) (subst (λ (z : ℕ). Found g ask s z x) same-candidates (w .0)) (w .2) (left-t (w .1) (w .3) .0)
 
-          into : Found g 1 q s (bitOr b t) x × (u : ℕ) × In u x × In u t → Dec (0 < size (bitAnd x t2)) → T (union (found g 1 q (with s v) r) (touched g q s b2 t2) x)
+          into : Found g ask s (bitOr b t) x × (u : ℕ) × In u x × In u t → Dec (0 < size (bitAnd x t2))
+              → T (union (found g ask (with s v) r) (touched g ask s b2 t2) x)
           into w (yes y) =
               let z = some-member (bitAnd x t2) y in
-              or-right (found g 1 q (with s v) r x) (touched g q s b2 t2 x)
-              (touched-test g q s b2 t2 x (z .0) (subst (λ (c : ℕ). Found g 1 q s c x) (sym same-candidates) (w .0))
+              or-right (found g ask (with s v) r x) (touched g ask s b2 t2 x)
+              (touched-test g ask s b2 t2 x (z .0) (subst (λ (c : ℕ). Found g ask s c x) (sym same-candidates) (w .0))
               (omega (arith, bit-and x t2 (z .0), z .1, bit-le x (z .0))) (omega (arith, bit-and x t2 (z .0), z .1, bit-le t2 (z .0))))
           into w (no n) =
-              or-left (found g 1 q (with s v) r x) (touched g q s b2 t2 x)
-              (found-test g 1 q (with s v) r x (taken x (w .0) (only-v (ℕ-discrete v (w .1))) none))
+              or-left (found g ask (with s v) r x) (touched g ask s b2 t2 x)
+              (found-test g ask (with s v) r x (taken x (w .0) (only-v (ℕ-discrete v (w .1))) none))
             where
               none : (u : ℕ) → In u x → In u t2 → ⊥
               none u j k =
@@ -346,11 +347,6 @@ module _ (g : List ℕ) (q have s b m t count : ℕ) (h : Sweeping g q have s b 
               only-v : Dec (v ≡ w .1) → In v x
               only-v (yes z) = subst (λ (y : ℕ). bit x y ≡ 1) (sym z) (w .2)
               only-v (no nz) = absurd (none (w .1) (w .2) (subst (In (w .1)) (sym et) (omega (arith, without-other t v (w .1) nz, w .3))))
-
-      shared : number (2 ^ length g) (found g 1 q (with s v) r) + number (2 ^ length g) (touched g q s b2 t2) ≡ number (2 ^ length g) (touched g q s b t)
-      shared =
-          sym (number-union (2 ^ length g) (found g 1 q (with s v) r) (touched g q s b2 t2) sweep-apart)
-          ∙ number-same (2 ^ length g) (union (found g 1 q (with s v) r) (touched g q s b2 t2)) (touched g q s b t) sweep-split
 
       -- the candidates fall at v, and what is to be taken falls at each step
       pub inside-falls : r < bitOr b t
@@ -384,21 +380,21 @@ module _ (g : List ℕ) (q have s b m t count : ℕ) (h : Sweeping g q have s b 
           close x u ix iu (yes y) = subst (λ (c : ℕ). In x (row g c)) y (omega (arith, bit-and m (row g v) x, bit-le (row g v) x))
           close x u ix iu (no ny) = h .common .beside x u (omega (arith, bit-and m (row g v) x, bit-le m x)) (omega (arith, with-other s v u ny))
 
-      pub sweep-taking : (a j w : ℕ) → a ≡ have + 1 → j ≡ with s v → w ≡ bitAnd m (row g v) → Taking g q a j r w count
+      pub sweep-taking : (a j w : ℕ) → a ≡ have + 1 → j ≡ with s v → w ≡ bitAnd m (row g v) → Taking g ask a j r w count
       sweep-taking a j w ea z ew =
-          subst (λ (y : ℕ). Taking g q a y r w count) (sym z)
-          (subst (λ (y : ℕ). Taking g q a (with s v) r y count) (sym ew)
+          subst (λ (y : ℕ). Taking g ask a y r w count) (sym z)
+          (subst (λ (y : ℕ). Taking g ask a (with s v) r y count) (sym ew)
           (record {
             some = h .some;
             most = h .most;
             valid = h .valid;
+            slack = h .slack;
             floor = h .floor;
             below = with-below (length g) s v (h .below) sweep-vertex;
             counted = omega (arith, h .counted, size-with s v (out-of v near));
             clique = grown;
             common = next-common;
             part = λ u. inner u (ℕ-discrete (bit r u) 1);
-            room = omega (arith, h .room, shared);
           }))
         where
           inner : (u : ℕ) → Dec (bit r u ≡ 1) → bit r u ≤ bit (bitAnd m (row g v)) u
@@ -406,16 +402,17 @@ module _ (g : List ℕ) (q have s b m t count : ℕ) (h : Sweeping g q have s b 
           inner u (no n) = omega (arith, bit-le r u)
 
       -- once v has added it
-      module _ (j : ℕ) (z : j ≡ with s v) (before between : List ℕ) (n : ℕ) (x : Adds (2 ^ length g) (found g 1 q j r) before count between n) where
-        grown-adds : Adds (2 ^ length g) (found g 1 q (with s v) r) before count between n
-        grown-adds = subst (λ (y : ℕ). Adds (2 ^ length g) (found g 1 q y r) before count between n) z x
+      module _ (j : ℕ) (z : j ≡ with s v) (before between : List ℕ) (n : ℕ) (x : Adds (2 ^ length g) (found g ask j r) before count between n) where
+        grown-adds : Adds (2 ^ length g) (found g ask (with s v) r) before count between n
+        grown-adds = subst (λ (y : ℕ). Adds (2 ^ length g) (found g ask y r) before count between n) z x
 
-        pub left-sweeping : Sweeping g q have s b2 m t2 n
+        pub left-sweeping : Sweeping g ask have s b2 m t2 n
         left-sweeping =
             record {
               some = h .some;
               most = h .most;
               valid = h .valid;
+              slack = h .slack;
               floor = h .floor;
               below = h .below;
               counted = h .counted;
@@ -423,74 +420,79 @@ module _ (g : List ℕ) (q have s b m t count : ℕ) (h : Sweeping g q have s b 
               common = h .common;
               part = subst (λ (y : ℕ). Sub y m) (sym same-candidates) (h .part);
               apart = λ u j. clear u (left-t u j);
-              room = omega (arith, h .room, shared, grown-adds .counts);
             }
           where
             clear : (u : ℕ) → In u t × (v ≢ u) → bit b2 u ≡ 0
             clear u k = omega (arith, ap (λ (y : ℕ). bit y u) eb, with-other b v u (k .1), h .apart u (k .0))
 
-        pub sweep-adds : (after : List ℕ) (o : ℕ) → Adds (2 ^ length g) (touched g q s b2 t2) between n after o → Adds (2 ^ length g) (touched g q s b t) before count after o
+        pub sweep-adds : (after : List ℕ) (o : ℕ) → Adds (2 ^ length g) (touched g ask s b2 t2) between n after o
+            → Adds (2 ^ length g) (touched g ask s b t) before count after o
         sweep-adds after o y =
-            adds-same (2 ^ length g) (union (found g 1 q (with s v) r) (touched g q s b2 t2)) (touched g q s b t) before after count o sweep-split
-            (adds-both (2 ^ length g) (found g 1 q (with s v) r) (touched g q s b2 t2) before between after count n o sweep-apart grown-adds y)
+            adds-same (2 ^ length g) (union (found g ask (with s v) r) (touched g ask s b2 t2)) (touched g ask s b t) before after count o sweep-split
+            (adds-both (2 ^ length g) (found g ask (with s v) r) (touched g ask s b2 t2) before between after count n o sweep-apart grown-adds y)
 
 -- ---- a sweep on its way: b and t have become b2 and t2, and the slots after
 
-pub record Swept (g : List ℕ) (q have s b m t : ℕ) (before : List ℕ) (count b2 t2 : ℕ) (after : List ℕ) (n : ℕ) : Type 0 where
-  pub sweeping : Sweeping g q have s b2 m t2 n
+pub record Swept (g : List ℕ) (ask : Request) (have s b m t : ℕ) (before : List ℕ) (count b2 t2 : ℕ) (after : List ℕ) (n : ℕ) : Type 0 where
+  pub sweeping : Sweeping g ask have s b2 m t2 n
   pub same : bitOr b2 t2 ≡ bitOr b t
-  pub onward : (last : List ℕ) (o : ℕ) → Adds (2 ^ length g) (touched g q s b2 t2) after n last o → Adds (2 ^ length g) (touched g q s b t) before count last o
+  pub onward : (last : List ℕ) (o : ℕ) → Adds (2 ^ length g) (touched g ask s b2 t2) after n last o
+      → Adds (2 ^ length g) (touched g ask s b t) before count last o
 
-pub swept-none : (g : List ℕ) (q have s b m t : ℕ) (slots : List ℕ) (count : ℕ) → Sweeping g q have s b m t count → Swept g q have s b m t slots count b t slots count
-swept-none g q have s b m t slots count h = record { sweeping = h; same = refl; onward = λ last o x. x }
+pub swept-none : (g : List ℕ) (ask : Request) (have s b m t : ℕ) (slots : List ℕ) (count : ℕ) → Sweeping g ask have s b m t count
+    → Swept g ask have s b m t slots count b t slots count
+swept-none g ask have s b m t slots count h = record { sweeping = h; same = refl; onward = λ last o x. x }
 
-module _ (g : List ℕ) (q have s b m t : ℕ) (before : List ℕ) (count b2 t2 : ℕ) (after : List ℕ) (n : ℕ) (w : Swept g q have s b m t before count b2 t2 after n) (v : ℕ) (i : In v t2)
+module _ (g : List ℕ) (ask : Request) (have s b m t : ℕ) (before : List ℕ) (count b2 t2 : ℕ) (after : List ℕ) (n : ℕ)
+    (w : Swept g ask have s b m t before count b2 t2 after n) (v : ℕ) (i : In v t2)
     (r b3 t3 : ℕ) (e : r ≡ bitAnd b2 (row g v)) (eb : b3 ≡ with b2 v) (et : t3 ≡ without t2 v) where
   pub swept-falls : r < bitOr b t
-  swept-falls = omega (arith, w .same, inside-falls g q have s b2 m t2 n (w .sweeping) v i r b3 t3 e eb et)
+  swept-falls = omega (arith, w .same, inside-falls g ask have s b2 m t2 n (w .sweeping) v i r b3 t3 e eb et)
 
-  pub swept-taking : (a j x : ℕ) → a ≡ have + 1 → j ≡ with s v → x ≡ bitAnd m (row g v) → Taking g q a j r x n
-  swept-taking = sweep-taking g q have s b2 m t2 n (w .sweeping) v i r b3 t3 e eb et
+  pub swept-taking : (a j x : ℕ) → a ≡ have + 1 → j ≡ with s v → x ≡ bitAnd m (row g v) → Taking g ask a j r x n
+  swept-taking = sweep-taking g ask have s b2 m t2 n (w .sweeping) v i r b3 t3 e eb et
 
-  pub swept-more : (j : ℕ) → j ≡ with s v → (last : List ℕ) (o : ℕ) → Adds (2 ^ length g) (found g 1 q j r) after n last o → Swept g q have s b m t before count b3 t3 last o
+  pub swept-more : (j : ℕ) → j ≡ with s v → (last : List ℕ) (o : ℕ) → Adds (2 ^ length g) (found g ask j r) after n last o
+      → Swept g ask have s b m t before count b3 t3 last o
   swept-more j z last o x =
       record {
-        sweeping = left-sweeping g q have s b2 m t2 n (w .sweeping) v i r b3 t3 e eb et j z after last o x;
-        same = left-falls g q have s b2 m t2 n (w .sweeping) v i r b3 t3 e eb et .0 ∙ w .same;
-        onward = λ end p y. w .onward end p (sweep-adds g q have s b2 m t2 n (w .sweeping) v i r b3 t3 e eb et j z after last o x end p y);
+        sweeping = left-sweeping g ask have s b2 m t2 n (w .sweeping) v i r b3 t3 e eb et j z after last o x;
+        same = left-falls g ask have s b2 m t2 n (w .sweeping) v i r b3 t3 e eb et .0 ∙ w .same;
+        onward = λ end p y. w .onward end p (sweep-adds g ask have s b2 m t2 n (w .sweeping) v i r b3 t3 e eb et j z after last o x end p y);
       }
 
-pub swept-all : (g : List ℕ) (q have s b m t : ℕ) (before : List ℕ) (count b2 t2 : ℕ) (after : List ℕ) (n : ℕ) → Swept g q have s b m t before count b2 t2 after n → t2 ≡ 0
-    → Adds (2 ^ length g) (touched g q s b t) before count after n
-swept-all g q have s b m t before count b2 t2 after n w z = w .onward after n (done-adds g q have s b2 m t2 n (w .sweeping) z after)
+pub swept-all : (g : List ℕ) (ask : Request) (have s b m t : ℕ) (before : List ℕ) (count b2 t2 : ℕ) (after : List ℕ) (n : ℕ)
+    → Swept g ask have s b m t before count b2 t2 after n → t2 ≡ 0 → Adds (2 ^ length g) (touched g ask s b t) before count after n
+swept-all g ask have s b m t before count b2 t2 after n w z = w .onward after n (done-adds g ask have s b2 m t2 n (w .sweeping) z after)
 
 -- ---- what a grown clique adds
 
-module _ (g : List ℕ) (q have s c m count : ℕ) (h : Taking g q have s c m count) where
+module _ (g : List ℕ) (ask : Request) (have s c m count : ℕ) (h : Taking g ask have s c m count) where
   pub take-fits : have ≤ width
   take-fits = omega (arith, h .counted, ones-le (length g) s (h .below), h .most)
 
   -- too few vertices are left
-  pub few-adds : have + size c < q → (slots : List ℕ) → Adds (2 ^ length g) (found g 1 q s c) slots count slots count
+  pub few-adds : have + size c < ask .floor → (slots : List ℕ) → Adds (2 ^ length g) (found g ask s c) slots count slots count
   few-adds l slots =
-      adds-none (2 ^ length g) (found g 1 q s c) slots count (cut-none g 1 q s c (λ x f.
+      adds-none (2 ^ length g) (found g ask s c) slots count (cut-none g ask s c (λ x f.
       omega (arith, f .listed .large, size-mono x (bitOr s c) (f .upper), size-or s c, h .counted)))
 
   -- the candidates d are to be taken, and the others of c wait
   module _ (d b : ℕ) (e : b ≡ minus c d) (cover : Covering g c m d) where
-    all-touched : (x : ℕ) → x < 2 ^ length g → touched g q s (minus c d) d x ≡ found g 1 q s c x
-    all-touched = touched-all g q s c d (cover .part) (pivot-hits g 1 q s c m d (h .valid) (le-refl 1) (h .common) cover)
+    all-touched : (x : ℕ) → x < 2 ^ length g → touched g ask s (minus c d) d x ≡ found g ask s c x
+    all-touched = touched-all g ask s c d (cover .part) (pivot-hits g ask s c m d (h .valid) (omega (arith, h .slack)) (h .common) cover)
 
     pub next-candidates : bitOr b d ≡ c
     next-candidates = ap (λ (y : ℕ). bitOr y d) e ∙ ext (bitOr (minus c d) d) c (λ u. omega (arith, bit-or (minus c d) d u, bit-minus c d u, cover .part u, bit-le c u))
 
-    pub next-sweeping : Sweeping g q have s b m d count
+    pub next-sweeping : Sweeping g ask have s b m d count
     next-sweeping =
-        subst (λ (y : ℕ). Sweeping g q have s y m d count) (sym e)
+        subst (λ (y : ℕ). Sweeping g ask have s y m d count) (sym e)
         (record {
           some = h .some;
           most = h .most;
           valid = h .valid;
+          slack = h .slack;
           floor = h .floor;
           below = h .below;
           counted = h .counted;
@@ -498,13 +500,13 @@ module _ (g : List ℕ) (q have s c m count : ℕ) (h : Taking g q have s c m co
           common = h .common;
           part = λ u. omega (arith, bit-or (minus c d) d u, bit-minus c d u, cover .part u, h .part u);
           apart = λ u k. omega (arith, bit-minus c d u, bit-le c u);
-          room = omega (arith, h .room, number-same (2 ^ length g) (touched g q s (minus c d) d) (found g 1 q s c) all-touched);
         })
 
-    pub next-adds : (before after : List ℕ) (o : ℕ) → Adds (2 ^ length g) (touched g q s b d) before count after o → Adds (2 ^ length g) (found g 1 q s c) before count after o
+    pub next-adds : (before after : List ℕ) (o : ℕ) → Adds (2 ^ length g) (touched g ask s b d) before count after o
+        → Adds (2 ^ length g) (found g ask s c) before count after o
     next-adds before after o x =
-        adds-same (2 ^ length g) (touched g q s (minus c d) d) (found g 1 q s c) before after count o all-touched
-        (subst (λ (y : ℕ). Adds (2 ^ length g) (touched g q s y d) before count after o) e x)
+        adds-same (2 ^ length g) (touched g ask s (minus c d) d) (found g ask s c) before after count o all-touched
+        (subst (λ (y : ℕ). Adds (2 ^ length g) (touched g ask s y d) before count after o) e x)
 
   -- no vertex is adjacent to all of s: it is a maximal clique
   module _ (alone : m ≡ 0) where
@@ -521,61 +523,80 @@ module _ (g : List ℕ) (q have s c m count : ℕ) (h : Taking g q have s c m co
         (in-of-sub s (with s x) u (sub-with s x) iu) (with-same s x) (λ y. omega (arith, iu, subst (λ (v : ℕ). bit s v ≡ 0) (sym y) ex))) in
         omega (arith, inside, none-beside x))
 
-    lonely : (y : ℕ) → y < 2 ^ length g → unless (ltb have q) s y ≡ found g 1 q s c y
-    lonely y ly = go (decLt have q)
+    lonely : (y : ℕ) → y < 2 ^ length g → unless (ltb have (ask .floor)) s y ≡ found g ask s c y
+    lonely y ly = go (decLt have (ask .floor))
       where
-        same : T (found g 1 q s c y) → y ≡ s
+        same : T (found g ask s c y) → y ≡ s
         same k =
-            let f = found-holds g 1 q s c y ly k in
-            sym (f .listed .top .1 s (h .below) (subst (Sub y) whole (f .upper)) (h .clique))
+            let f = found-holds g ask s c y ly k in
+            sym (f .listed .top .1 s (h .below) (subst (Sub y) whole (f .upper)) (subst (λ (a : ℕ). Plex g a s) (sym (h .slack)) (h .clique)))
 
-        go : Dec (have < q) → unless (ltb have q) s y ≡ found g 1 q s c y
+        go : Dec (have < ask .floor) → unless (ltb have (ask .floor)) s y ≡ found g ask s c y
         go (yes l) =
-            ap (λ (b : Bool). unless b s y) (lt-ltb have q l)
-            ∙ same-test false (found g 1 q s c y) (λ k. absurd k) (λ k.
-            let f = found-holds g 1 q s c y ly k in
+            ap (λ (b : Bool). unless b s y) (lt-ltb have (ask .floor) l)
+            ∙ same-test false (found g ask s c y) (λ k. absurd k) (λ k.
+            let f = found-holds g ask s c y ly k in
             omega (arith, f .listed .large, ap size (same k), h .counted))
         go (no nl) =
-            ap (λ (b : Bool). unless b s y) (le-ltb have q (omega arith))
-            ∙ same-test (eqb y s) (found g 1 q s c y)
-            (λ k. subst (λ (u : ℕ). T (found g 1 q s c u)) (sym (eqb→eq y s k))
-            (found-test g 1 q s c s (record {
+            ap (λ (b : Bool). unless b s y) (le-ltb have (ask .floor) (omega arith))
+            ∙ same-test (eqb y s) (found g ask s c y)
+            (λ k. subst (λ (u : ℕ). T (found g ask s c u)) (sym (eqb→eq y s k))
+            (found-test g ask s c s (record {
               lower = sub-refl s;
               upper = λ u. omega (arith, bit-or s c u);
-              listed = record { below = h .below; large = omega (arith, h .counted); top = top };
+              listed = record { below = h .below; large = omega (arith, h .counted); top = subst (λ (a : ℕ). Maximal g a s) (sym (h .slack)) top };
             })))
             (λ k. subst (λ (u : ℕ). T (eqb y u)) (same k) (eqb-refl y))
 
     module _ (n : ℕ) (e : n ≡ length g) where
-      pub lonely-placeable : Placeable n q have s count
-      lonely-placeable =
-          subst (λ (y : ℕ). Placeable y q have s count) (sym e)
-          (record {
-            below = h .below;
-            room = λ l.
-                omega (
-                  arith,
-                  h .room,
-                  number-same (2 ^ length g) (unless (ltb have q) s) (found g 1 q s c) lonely,
-                  number-same (2 ^ length g) (only s) (unless (ltb have q) s) (λ y ly. ap (λ (b : Bool). unless b s y) (sym (le-ltb have q l))),
-                  number-only (2 ^ length g) s (h .below),
-                );
-          })
+      pub lonely-below : s < 2 ^ n
+      lonely-below = subst (λ (y : ℕ). s < 2 ^ y) (sym e) (h .below)
 
-      pub lonely-adds : (before after : List ℕ) (o : ℕ) → Adds (2 ^ n) (unless (ltb have q) s) before count after o → Adds (2 ^ length g) (found g 1 q s c) before count after o
+      pub lonely-adds : (before after : List ℕ) (o : ℕ) → Adds (2 ^ n) (unless (ltb have (ask .floor)) s) before count after o
+          → Adds (2 ^ length g) (found g ask s c) before count after o
       lonely-adds before after o y =
-          adds-same (2 ^ length g) (unless (ltb have q) s) (found g 1 q s c) before after count o lonely
-          (subst (λ (u : ℕ). Adds (2 ^ u) (unless (ltb have q) s) before count after o) e y)
+          adds-same (2 ^ length g) (unless (ltb have (ask .floor)) s) (found g ask s c) before after count o lonely
+          (subst (λ (u : ℕ). Adds (2 ^ u) (unless (ltb have (ask .floor)) s) before count after o) e y)
 
--- ---- the top
+-- ---- the vertices that the members of s share, by a walk through them
 
-pub start-common : (g : List ℕ) (s m : ℕ) → s ≡ 0 → m < 2 ^ length g → ((x : ℕ) → x < length g → In x m) → Common g s m
-start-common g s m e b f =
-    record {
-      below = b;
-      beside = λ x u ix iu. absurd (omega (arith, iu, subst (λ (y : ℕ). bit y u ≡ 0) (sym e) (bit-high 0 u (pow-pos u))));
-      every = λ x l _. f x l;
-    }
+pub record Sharing (g : List ℕ) (s left m : ℕ) : Type 0 where
+  pub below : m < 2 ^ length g
+  pub beside : Walked (λ u. Sub m (row g u)) s left
+  pub every : (x : ℕ) → x < length g → ((u : ℕ) → In u s → In x (row g u)) → In x m
+
+module _ (g : List ℕ) (s : ℕ) where
+  pub sharing-none : (m : ℕ) → m ≡ full (length g) → Sharing g s s m
+  sharing-none m e =
+      subst (Sharing g s s) (sym e)
+      (record {
+        below = ones-lt (length g);
+        beside = walk-none (λ u. Sub (full (length g)) (row g u)) s;
+        every = λ x l f. bit-full (length g) x l;
+      })
+
+  pub sharing-next : (left m v r w n : ℕ) → In v s → r ≡ without left v → w ≡ row g v → n ≡ bitAnd m w → Sharing g s left m → Sharing g s r n
+  sharing-next left m v r w n i er ew en h =
+      subst (Sharing g s r) (sym (en ∙ ap (bitAnd m) ew))
+      (record {
+        below = and-below (length g) m (row g v) (h .below);
+        beside =
+            walk-next (λ u. Sub (bitAnd m (row g v)) (row g u)) s left v r er
+            (walk-map (λ u. Sub m (row g u)) (λ u. Sub (bitAnd m (row g v)) (row g u)) s left (λ u k. narrow u k) (h .beside))
+            (λ x. omega (arith, bit-and m (row g v) x));
+        every = λ x l f. omega (arith, bit-and m (row g v) x, h .every x l f, f v i);
+      })
+    where
+      narrow : (u : ℕ) → Sub m (row g u) → Sub (bitAnd m (row g v)) (row g u)
+      narrow u k x = omega (arith, bit-and m (row g v) x, k x)
+
+  pub sharing-all : (left m : ℕ) → left ≡ 0 → Sharing g s left m → Common g s m
+  sharing-all left m z h =
+      record {
+        below = h .below;
+        beside = λ x u ix iu. in-of-sub m (row g u) x (walk-all (λ w. Sub m (row g w)) s left z (h .beside) u iu) ix;
+        every = h .every;
+      }
 
 -- ---- the choice of a pivot
 

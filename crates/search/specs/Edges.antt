@@ -7,6 +7,7 @@ use lib.Dec.{T, eqb}
 use Rattle.sets.specs.Ranges.{from, range, first, all, any, keep, total, greatest, joined}
 use Rattle.sets.specs.Set.{bit, has, subset, with, minus, setOf, members}
 use Rattle.sets.specs.Graph.{row}
+use Rattle.judging.specs.Request.{request}
 use Rattle.judging.specs.Graph.{adjacent, degree, missing}
 use Rattle.judging.specs.Plex.{plex, maximal}
 use Rattle.judging.specs.Refusal.{Reply, refused, answered, firstOf, outside, vertexCause, slackCause, floorCause, badRow, oneWay, lowestRow, rowCause, edgeCause, graphCauses, setCause, vertexOutCause}
@@ -62,14 +63,14 @@ hold (edge a b ∷ es) = agree a b && hold es
 
 pub edges : List Edge
 edges =
-    edge (listing ring5 2 3) (0x07 ∷ 0x0E ∷ 0x13 ∷ 0x19 ∷ 0x1C ∷ [])
+    edge (listing ring5 (request 2 3)) (0x07 ∷ 0x0E ∷ 0x13 ∷ 0x19 ∷ 0x1C ∷ [])
     ∷ edge (shown (coreReply ring5 2 4)) (0 ∷ 0 ∷ 0x1F ∷ [])
     ∷ edge (shown (coreReply ring5 2 5)) (0 ∷ 0 ∷ 0 ∷ [])
-    ∷ edge (listing ring4 2 4) (0xF ∷ [])
-    ∷ edge (listing ring4 1 2) (0x3 ∷ 0x6 ∷ 0x9 ∷ 0xC ∷ [])
-    ∷ edge (listing apart3 1 1) (1 ∷ 2 ∷ 4 ∷ [])
-    ∷ edge (listing apart3 2 3) []
-    ∷ edge (listing single 1 1) (1 ∷ [])
+    ∷ edge (listing ring4 (request 2 4)) (0xF ∷ [])
+    ∷ edge (listing ring4 (request 1 2)) (0x3 ∷ 0x6 ∷ 0x9 ∷ 0xC ∷ [])
+    ∷ edge (listing apart3 (request 1 1)) (1 ∷ 2 ∷ 4 ∷ [])
+    ∷ edge (listing apart3 (request 2 3)) []
+    ∷ edge (listing single (request 1 1)) (1 ∷ [])
     ∷ edge (shown (reachReply path4 0)) (0 ∷ 0 ∷ 7 ∷ [])
     ∷ edge (shown (firstBoundReply seven 2 0x07 0x78 3)) (0 ∷ 0 ∷ 8 ∷ [])
     ∷ edge (shown (secondBoundReply seven 2 0x07 0x78 3)) (0 ∷ 0 ∷ 6 ∷ [])

@@ -1,11 +1,11 @@
 -- What a call of the search is to add, and what its parts rely on.
 --
---   found g k q s c x     x is listed, holds s and has no member outside s and c
+--   found g ask s c x     x is listed, holds s and has no member outside s and c
 --   Found                 the same as a statement
---   Empty g k q s c       nothing is to be added: the branch is cut
+--   Empty g ask s c       nothing is to be added: the branch is cut
 --   Compatible g k s c    s is a plex, apart from c, and stays one with each candidate of c
 --   Short g k q s a       every plex between s and a has fewer than q members
---   Near g k q t          a listed plex that holds v has no member outside row v of the table t, but v
+--   Near g ask t          a listed plex that holds v has no member outside row v of the table t, but v
 use Prim.Native.Nat.{ℕ, _^_, _<_}
 use mathlib.Core.Path.{_≡_}
 use mathlib.Core.Logic.{_≢_}
@@ -15,19 +15,20 @@ use lib.Bits.{bitOr}
 use lib.ListN.{length}
 use Rattle.sets.specs.Set.{bit, In, Sub, size, subset, with}
 use Rattle.sets.specs.Graph.{row}
+use Rattle.judging.specs.Request.{Request}
 use Rattle.judging.specs.Plex.{Plex}
 use Rattle.lists.specs.Listing.{listed, Listed}
 
-unfoldable pub found : List ℕ → ℕ → ℕ → ℕ → ℕ → ℕ → Bool
-found g k q s c x = subset s x && subset x (bitOr s c) && listed g k q x
+unfoldable pub found : List ℕ → Request → ℕ → ℕ → ℕ → Bool
+found g ask s c x = subset s x && subset x (bitOr s c) && listed g ask x
 
-pub record Found (g : List ℕ) (k q s c x : ℕ) : Type 0 where
+pub record Found (g : List ℕ) (ask : Request) (s c x : ℕ) : Type 0 where
   pub lower : Sub s x
   pub upper : Sub x (bitOr s c)
-  pub listed : Listed g k q x
+  pub listed : Listed g ask x
 
-abbrev pub Empty : List ℕ → ℕ → ℕ → ℕ → ℕ → Type 0
-Empty g k q s c = (x : ℕ) → Found g k q s c x → ⊥
+abbrev pub Empty : List ℕ → Request → ℕ → ℕ → Type 0
+Empty g ask s c = (x : ℕ) → Found g ask s c x → ⊥
 
 pub record Compatible (g : List ℕ) (k s c : ℕ) : Type 0 where
   pub below : s < 2 ^ length g
@@ -39,5 +40,5 @@ pub record Compatible (g : List ℕ) (k s c : ℕ) : Type 0 where
 abbrev pub Short : List ℕ → ℕ → ℕ → ℕ → ℕ → Type 0
 Short g k q s a = (t : ℕ) → t < 2 ^ length g → Plex g k t → Sub s t → Sub t a → size t < q
 
-abbrev pub Near : List ℕ → ℕ → ℕ → List ℕ → Type 0
-Near g k q t = (v x : ℕ) → v < length g → Listed g k q x → In v x → (u : ℕ) → In u x → u ≢ v → In u (row t v)
+abbrev pub Near : List ℕ → Request → List ℕ → Type 0
+Near g ask t = (v x : ℕ) → v < length g → Listed g ask x → In v x → (u : ℕ) → In u x → u ≢ v → In u (row t v)

@@ -17,6 +17,7 @@ use Rattle.sets.specs.RangeLaws.{and-left, and-right, both, or-cases, or-left, 
 use Rattle.sets.specs.BitLaws.{bit-le, bit-or, bit-minus, bit-high}
 use Rattle.sets.specs.SubsetLaws.{subset-sub, sub-subset, sub-trans, in-below, with-sub, with-same, with-other, sub-with, without-same, without-other, minus-sub}
 use Rattle.sets.specs.SizeLaws.{size-mono}
+use Rattle.judging.specs.Request.{Request}
 use Rattle.judging.specs.Graph.{missing, Valid}
 use Rattle.judging.specs.Plex.{Plex, extendable}
 use Rattle.judging.specs.ExtensionLaws.{extendable-none, unextendable-maximal}
@@ -32,41 +33,37 @@ use Rattle.search.specs.TrimLaws.{Kept}
 
 -- ---- the test and the statement
 
-module _ (g : List ℕ) (k q s c : ℕ) where
-  pub found-holds : (x : ℕ) → x < 2 ^ length g → T (found g k q s c x) → Found g k q s c x
+module _ (g : List ℕ) (ask : Request) (s c : ℕ) where
+  pub found-holds : (x : ℕ) → x < 2 ^ length g → T (found g ask s c x) → Found g ask s c x
   unfolding found
   found-holds x l t =
-      let front = and-left (subset s x && subset x (bitOr s c)) (listed g k q x) t in
+      let front = and-left (subset s x && subset x (bitOr s c)) (listed g ask x) t in
       record {
         lower = subset-sub s x (and-left (subset s x) (subset x (bitOr s c)) front);
         upper = subset-sub x (bitOr s c) (and-right (subset s x) (subset x (bitOr s c)) front);
-        listed = listed-holds g k q x l (and-right (subset s x && subset x (bitOr s c)) (listed g k q x) t);
+        listed = listed-holds g ask x l (and-right (subset s x && subset x (bitOr s c)) (listed g ask x) t);
       }
 
-  pub found-test : (x : ℕ) → Found g k q s c x → T (found g k q s c x)
+  pub found-test : (x : ℕ) → Found g ask s c x → T (found g ask s c x)
   unfolding found
   found-test x h =
-      both (subset s x && subset x (bitOr s c)) (listed g k q x)
+      both (subset s x && subset x (bitOr s c)) (listed g ask x)
       (both (subset s x) (subset x (bitOr s c)) (sub-subset s x (h .lower)) (sub-subset x (bitOr s c) (h .upper)))
-      (listed-test g k q x (h .listed))
+      (listed-test g ask x (h .listed))
 
   -- ---- cuts
 
-  -- nothing between s and a is larger than a
-  pub small-short : (a : ℕ) → size a < q → Short g k q s a
-  small-short a l t b p i j = omega (arith, size-mono t a j)
-
-  pub cut-none : Empty g k q s c → (x : ℕ) → x < 2 ^ length g → T (found g k q s c x) → ⊥
+  pub cut-none : Empty g ask s c → (x : ℕ) → x < 2 ^ length g → T (found g ask s c x) → ⊥
   cut-none e x l t = e x (found-holds x l t)
 
-  pub short-empty : Short g k q s (bitOr s c) → Empty g k q s c
+  pub short-empty : Short g (ask .slack) (ask .floor) s (bitOr s c) → Empty g ask s c
   short-empty h x f = omega (arith, h x (f .listed .below) (f .listed .top .0) (f .lower) (f .upper), f .listed .large)
 
-  pub extendable-empty : Valid g → T (extendable g k (bitOr s c)) → Empty g k q s c
-  extendable-empty ok h x f = extendable-none g k (bitOr s c) x ok (f .listed .below) h (f .upper) (f .listed .top)
+  pub extendable-empty : Valid g → T (extendable g (ask .slack) (bitOr s c)) → Empty g ask s c
+  extendable-empty ok h x f = extendable-none g (ask .slack) (bitOr s c) x ok (f .listed .below) h (f .upper) (f .listed .top)
 
   -- a member w of s and c that misses more than k of them, no candidate itself and adjacent to every candidate
-  pub stuck-empty : (w : ℕ) → In w (bitOr s c) → bit c w ≡ 0 → k < missing g (bitOr s c) w → minus c (row g w) ≡ 0 → Empty g k q s c
+  pub stuck-empty : (w : ℕ) → In w (bitOr s c) → bit c w ≡ 0 → ask .slack < missing g (bitOr s c) w → minus c (row g w) ≡ 0 → Empty g ask s c
   unfolding missing
   stuck-empty w i out many none x f =
       omega (arith, many, f .listed .top .0 w (in-below (length g) x w (f .listed .below) held) held, size-mono (minus (bitOr s c) (row g w)) (minus x (row g w)) inside)
@@ -81,31 +78,32 @@ module _ (g : List ℕ) (k q s c : ℕ) where
 
   -- ---- a leaf: s and c together are a plex that is not extendable
 
-  module _ (ok : Valid g) (b : bitOr s c < 2 ^ length g) (p : Plex g k (bitOr s c)) (n : T (extendable g k (bitOr s c)) → ⊥) (l : q ≤ size (bitOr s c)) where
-    pub leaf-found : T (found g k q s c (bitOr s c))
+  module _ (ok : Valid g) (b : bitOr s c < 2 ^ length g) (p : Plex g (ask .slack) (bitOr s c))
+      (n : T (extendable g (ask .slack) (bitOr s c)) → ⊥) (l : ask .floor ≤ size (bitOr s c)) where
+    pub leaf-found : T (found g ask s c (bitOr s c))
     leaf-found =
         found-test (bitOr s c)
         (record {
           lower = λ u. omega (arith, bit-or s c u);
           upper = λ u. le-refl (bit (bitOr s c) u);
-          listed = record { below = b; large = l; top = unextendable-maximal g k (bitOr s c) ok p n };
+          listed = record { below = b; large = l; top = unextendable-maximal g (ask .slack) (bitOr s c) ok p n };
         })
 
-    pub leaf-only : (y : ℕ) → y < 2 ^ length g → T (found g k q s c y) → y ≡ bitOr s c
+    pub leaf-only : (y : ℕ) → y < 2 ^ length g → T (found g ask s c y) → y ≡ bitOr s c
     leaf-only y ly t =
         let f = found-holds y ly t in
         sym (f .listed .top .1 (bitOr s c) b (f .upper) p)
 
 -- ---- with and without a candidate v
 
-module _ (g : List ℕ) (k q s c v r : ℕ) (e : In v c) (out : bit s v ≡ 0) (kept : Kept g k q (with s v) (without c v) r) where
-  pub with-found : (x : ℕ) → Found g k q s c x → In v x → Found g k q (with s v) r x
+module _ (g : List ℕ) (ask : Request) (s c v r : ℕ) (e : In v c) (out : bit s v ≡ 0) (kept : Kept g ask (with s v) (without c v) r) where
+  pub with-found : (x : ℕ) → Found g ask s c x → In v x → Found g ask (with s v) r x
   with-found x f i = record { lower = grown; upper = λ u. go u (ℕ-discrete (bit x u) 1) (ℕ-discrete v u); listed = f .listed }
     where
       grown : Sub (with s v) x
       grown = with-sub s v x (f .lower) i
 
-      untrimmed : Found g k q (with s v) (without c v) x
+      untrimmed : Found g ask (with s v) (without c v) x
       untrimmed = record { lower = grown; upper = λ u. within u (ℕ-discrete v u); listed = f .listed }
         where
           within : (u : ℕ) → Dec (v ≡ u) → bit x u ≤ bit (bitOr (with s v) (without c v)) u
@@ -122,7 +120,7 @@ module _ (g : List ℕ) (k q s c v r : ℕ) (e : In v c) (out : bit s v ≡ 0) (
               omega (arith, bit-or (with s v) r u, kept .keeps x untrimmed u h (omega (arith, without-other c v u nz)), bit-le x u)
           side (no nm) = omega (arith, bit-or (with s v) r u, with-other s v u nz, f .upper u, bit-or s c u, bit-le c u)
 
-  pub found-with : (x : ℕ) → Found g k q (with s v) r x → Found g k q s c x
+  pub found-with : (x : ℕ) → Found g ask (with s v) r x → Found g ask s c x
   found-with x f =
       record {
         lower = sub-trans s (with s v) x (sub-with s v) (f .lower);
@@ -134,59 +132,60 @@ module _ (g : List ℕ) (k q s c v r : ℕ) (e : In v c) (out : bit s v ≡ 0) (
       go u (yes z) = subst (λ (y : ℕ). bit x y ≤ bit (bitOr s c) y) z (omega (arith, bit-or s c v, bit-le x v))
       go u (no nz) = omega (arith, f .upper u, bit-or (with s v) r u, with-other s v u nz, kept .part u, without-other c v u nz, bit-or s c u)
 
-  pub without-found : (x : ℕ) → Found g k q s c x → bit x v ≡ 0 → Found g k q s (without c v) x
+  pub without-found : (x : ℕ) → Found g ask s c x → bit x v ≡ 0 → Found g ask s (without c v) x
   without-found x f i = record { lower = f .lower; upper = λ u. go u (ℕ-discrete v u); listed = f .listed }
     where
       go : (u : ℕ) → Dec (v ≡ u) → bit x u ≤ bit (bitOr s (without c v)) u
       go u (yes z) = subst (λ (y : ℕ). bit x y ≤ bit (bitOr s (without c v)) y) z (omega arith)
       go u (no nz) = omega (arith, f .upper u, bit-or s c u, bit-or s (without c v) u, without-other c v u nz)
 
-  pub found-without : (x : ℕ) → Found g k q s (without c v) x → Found g k q s c x
+  pub found-without : (x : ℕ) → Found g ask s (without c v) x → Found g ask s c x
   found-without x f =
       record { lower = f .lower; upper = λ u. omega (arith, f .upper u, bit-or s (without c v) u, bit-or s c u, minus-sub c (2 ^ v) u); listed = f .listed }
 
   -- no plex is in both branches
-  pub branches-apart : Apart (2 ^ length g) (found g k q s (without c v)) (found g k q (with s v) r)
+  pub branches-apart : Apart (2 ^ length g) (found g ask s (without c v)) (found g ask (with s v) r)
   branches-apart x l u t =
-      let f = found-holds g k q (with s v) r x l t in
-      let h = found-holds g k q s (without c v) x l u in
+      let f = found-holds g ask (with s v) r x l t in
+      let h = found-holds g ask s (without c v) x l u in
       omega (arith, f .lower v, with-same s v, h .upper v, bit-or s (without c v) v, without-same c v)
 
   -- and each is in one of them
-  pub branches : (x : ℕ) → x < 2 ^ length g → union (found g k q s (without c v)) (found g k q (with s v) r) x ≡ found g k q s c x
+  pub branches : (x : ℕ) → x < 2 ^ length g → union (found g ask s (without c v)) (found g ask (with s v) r) x ≡ found g ask s c x
   branches x l =
-      same-test (union (found g k q s (without c v)) (found g k q (with s v) r) x) (found g k q s c x)
-      (λ t. back (or-cases (found g k q s (without c v) x) (found g k q (with s v) r x) t))
-      (λ t. into (found-holds g k q s c x l t) (ℕ-discrete (bit x v) 1))
+      same-test (union (found g ask s (without c v)) (found g ask (with s v) r) x) (found g ask s c x)
+      (λ t. back (or-cases (found g ask s (without c v) x) (found g ask (with s v) r x) t))
+      (λ t. into (found-holds g ask s c x l t) (ℕ-discrete (bit x v) 1))
     where
-      back : T (found g k q s (without c v) x) ⊎ T (found g k q (with s v) r x) → T (found g k q s c x)
-      back (inl t) = found-test g k q s c x (found-without x (found-holds g k q s (without c v) x l t))
-      back (inr t) = found-test g k q s c x (found-with x (found-holds g k q (with s v) r x l t))
+      back : T (found g ask s (without c v) x) ⊎ T (found g ask (with s v) r x) → T (found g ask s c x)
+      back (inl t) = found-test g ask s c x (found-without x (found-holds g ask s (without c v) x l t))
+      back (inr t) = found-test g ask s c x (found-with x (found-holds g ask (with s v) r x l t))
 
-      into : Found g k q s c x → Dec (bit x v ≡ 1) → T (union (found g k q s (without c v)) (found g k q (with s v) r) x)
-      into f (yes i) = or-right (found g k q s (without c v) x) (found g k q (with s v) r x) (found-test g k q (with s v) r x (with-found x f i))
+      into : Found g ask s c x → Dec (bit x v ≡ 1) → T (union (found g ask s (without c v)) (found g ask (with s v) r) x)
+      into f (yes i) = or-right (found g ask s (without c v) x) (found g ask (with s v) r x) (found-test g ask (with s v) r x (with-found x f i))
       into f (no ni) =
-          or-left (found g k q s (without c v) x) (found g k q (with s v) r x)
-          (found-test g k q s (without c v) x (without-found x f (omega (arith, bit-le x v))))
+          or-left (found g ask s (without c v) x) (found g ask (with s v) r x)
+          (found-test g ask s (without c v) x (without-found x f (omega (arith, bit-le x v))))
 
   -- where the branch with v is cut, the other has all
-  pub branch-without : Empty g k q (with s v) r → (x : ℕ) → x < 2 ^ length g → found g k q s (without c v) x ≡ found g k q s c x
+  pub branch-without : Empty g ask (with s v) r → (x : ℕ) → x < 2 ^ length g → found g ask s (without c v) x ≡ found g ask s c x
   branch-without no-with x l =
-      same-test (found g k q s (without c v) x) (found g k q s c x)
-      (λ t. found-test g k q s c x (found-without x (found-holds g k q s (without c v) x l t)))
-      (λ t. into (found-holds g k q s c x l t) (ℕ-discrete (bit x v) 1))
+      same-test (found g ask s (without c v) x) (found g ask s c x)
+      (λ t. found-test g ask s c x (found-without x (found-holds g ask s (without c v) x l t)))
+      (λ t. into (found-holds g ask s c x l t) (ℕ-discrete (bit x v) 1))
     where
-      into : Found g k q s c x → Dec (bit x v ≡ 1) → T (found g k q s (without c v) x)
+      into : Found g ask s c x → Dec (bit x v ≡ 1) → T (found g ask s (without c v) x)
       into f (yes i) = absurd (no-with x (with-found x f i))
-      into f (no ni) = found-test g k q s (without c v) x (without-found x f (omega (arith, bit-le x v)))
+      into f (no ni) = found-test g ask s (without c v) x (without-found x f (omega (arith, bit-le x v)))
 
 -- the second bound for s, the candidates c with v, and v
-pub bounded-empty : (g : List ℕ) (k q s c v : ℕ) → Boundable g k s (with c v) v → secondBound g k s (with c v) v < q → Empty g k q (with s v) c
-bounded-empty g k q s c v b l x f =
+pub bounded-empty : (g : List ℕ) (ask : Request) (s c v : ℕ) → Boundable g (ask .slack) s (with c v) v
+    → secondBound g (ask .slack) s (with c v) v < ask .floor → Empty g ask (with s v) c
+bounded-empty g ask s c v b l x f =
     omega (
       arith,
       f .listed .large,
-      second-sound g k s (with c v) v x (b .valid) (b .supported .inside .below) (f .listed .below) (f .listed .top .0)
+      second-sound g (ask .slack) s (with c v) v x (b .valid) (b .supported .inside .below) (f .listed .below) (f .listed .top .0)
           (sub-trans s (with s v) x (sub-with s v) (f .lower)) (omega (arith, f .lower v, with-same s v, bit-le x v)) (λ u. go u (ℕ-discrete v u)) (b .apart),
     )
   where

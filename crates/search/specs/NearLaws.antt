@@ -22,6 +22,7 @@ use Rattle.sets.specs.SizeLaws.{minus-below}
 use Rattle.sets.specs.MemberLaws.{set-of-in, set-of-below}
 use Rattle.sets.specs.WordLaws.{bit-full}
 use Rattle.sets.specs.WalkLaws.{Sifted, sifted-keep, sifted-drop, sifted-all}
+use Rattle.judging.specs.Request.{Request}
 use Rattle.judging.specs.Graph.{Valid}
 use Rattle.judging.specs.Plex.{Plex}
 use Rattle.bounds.specs.Pair.{common}
@@ -73,24 +74,25 @@ module _ (f : ℕ → ℕ) (before : List ℕ) where
 
 -- ---- each kind of row is near
 
-module _ (g : List ℕ) (k q v : ℕ) where
-  pub full-near : NearAt g k q v (full (length g))
+module _ (g : List ℕ) (ask : Request) (v : ℕ) where
+  pub full-near : NearAt g ask v (full (length g))
   full-near = record { low = omega (arith, pow-pos (length g)); near = λ x h hv u hu ne. bit-full (length g) u (in-below _ x u (h .below) hu) }
 
-  pub reach-near : Valid g → 2 * k ≤ q + 1 → NearAt g k q v (reach g v)
+  pub reach-near : Valid g → 2 * ask .slack ≤ ask .floor + 1 → NearAt g ask v (reach g v)
   reach-near ok big =
       record {
         low = reach-below g v;
-        near = λ x h hv u hu ne. in-of-sub x (reach g v) u (plex-reach g k x v ok (h .below) (h .top .0) (omega (arith, h .large)) hv) hu;
+        near = λ x h hv u hu ne. in-of-sub x (reach g v) u (plex-reach g (ask .slack) x v ok (h .below) (h .top .0) (omega (arith, h .large)) hv) hu;
       }
 
-  pub reach-row-near : (r : Bool) → Valid g → 2 * k ≤ q + 1 → NearAt g k q v (reachRow g r v)
+  pub reach-row-near : (r : Bool) → Valid g → 2 * ask .slack ≤ ask .floor + 1 → NearAt g ask v (reachRow g r v)
   unfolding reachRow
   reach-row-near true ok big = reach-near ok big
   reach-row-near false ok big = full-near
 
   -- what is near, sifted by pairs of s
-  pub pair-row-near : (s w : ℕ) → Valid g → ((x : ℕ) → Listed g k q x → Sub x s) → NearAt g k q v w → NearAt g k q v (pairRow g k q s (bitAnd s w) v)
+  pub pair-row-near : (s w : ℕ) → Valid g → ((x : ℕ) → Listed g ask x → Sub x s) → NearAt g ask v w
+      → NearAt g ask v (pairRow g (ask .slack) (ask .floor) s (bitAnd s w) v)
   unfolding pairRow
   pair-row-near s w ok holds wide = record {
     low = set-of-below _ (length g);
@@ -98,21 +100,21 @@ module _ (g : List ℕ) (k q v : ℕ) where
         let apart : v ≢ u = λ e. ne (sym e) in
         let inside : In u (bitAnd s w) = omega (arith, bit-and s w u, in-of-sub x s u (holds x h) hu, wide .near x h hv u hu ne) in
         set-of-in _ (length g) u (in-below _ x u (h .below) hu)
-        (both (has (without (bitAnd s w) v) u) (close g k q s v u) (in-has _ u (without-other (bitAnd s w) v u apart ∙ inside))
-        (pair-close g k q s x v u ok (h .below) (h .large) (h .top .0) (holds x h) hv hu apart));
+        (both (has (without (bitAnd s w) v) u) (close g (ask .slack) (ask .floor) s v u) (in-has _ u (without-other (bitAnd s w) v u apart ∙ inside))
+        (pair-close g (ask .slack) (ask .floor) s x v u ok (h .below) (h .large) (h .top .0) (holds x h) hv hu apart));
   }
 
   -- whatever is switched on
-  pub near-row-near : (s : ℕ) (r p : Bool) → Pairing g k q s → 2 * k ≤ q + 1 → NearAt g k q v (nearRow g k q s r p v)
+  pub near-row-near : (s : ℕ) (r p : Bool) → Pairing g ask s → 2 * ask .slack ≤ ask .floor + 1 → NearAt g ask v (nearRow g (ask .slack) (ask .floor) s r p v)
   unfolding nearRow
   near-row-near s r true h big = pair-row-near s (reachRow g r v) (h .valid) (h .holds) (reach-row-near r (h .valid) big)
   near-row-near s r false h big = reach-row-near r (h .valid) big
 
 -- so the table is
-pub written-filled : (g : List ℕ) (k q s m : ℕ) (r p : Bool) (before t : List ℕ) → Pairing g k q s → 2 * k ≤ q + 1 → length g ≤ m
-    → Written (nearRow g k q s r p) m before t → Filled g k q before t
-written-filled g k q s m r p before t h big all w = record {
+pub written-filled : (g : List ℕ) (ask : Request) (s m : ℕ) (r p : Bool) (before t : List ℕ) → Pairing g ask s → 2 * ask .slack ≤ ask .floor + 1 → length g ≤ m
+    → Written (nearRow g (ask .slack) (ask .floor) s r p) m before t → Filled g ask before t
+written-filled g ask s m r p before t h big all w = record {
   long = w .long;
-  low = λ v l. rw (w .rows v (le-trans l all)) (near-row-near g k q v s r p h big .low);
-  near = λ v x l i hv u hu ne. rw (w .rows v (le-trans l all)) (near-row-near g k q v s r p h big .near x i hv u hu ne);
+  low = λ v l. rw (w .rows v (le-trans l all)) (near-row-near g ask v s r p h big .low);
+  near = λ v x l i hv u hu ne. rw (w .rows v (le-trans l all)) (near-row-near g ask v s r p h big .near x i hv u hu ne);
 }

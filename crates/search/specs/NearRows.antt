@@ -5,11 +5,11 @@
 --   reachRow g r v            the reach of v where the switch r is on, else all vertices
 --   nearRow g k q s r p v     row v by the cuts that are switched on, where r is the switch of the reach and p that of the pairs
 --   Pairable g k q s          what a pair row relies on: s is inside the graph, and the sums of the test are small
---   Pairing g k q s           the same, of a valid graph, and s holds every listed plex
+--   Pairing g ask s           the same, of a valid graph, and s holds every listed plex
 --   Lent g t                  the lent table t has a row for each vertex
 --   Written f m before t      the first m rows of t are those of f, and t is as long as before
---   NearAt g k q v r          r is a set of vertices, and holds all members, v aside, of each listed plex that holds v
---   Filled g k q before t     t is as long as before, its rows are sets of vertices, and it is Near
+--   NearAt g ask v r          r is a set of vertices, and holds all members, v aside, of each listed plex that holds v
+--   Filled g ask before t     t is as long as before, its rows are sets of vertices, and it is Near
 use Prim.Native.Nat.{ℕ, _+_, _*_, _^_, _≤_, _<_}
 use mathlib.Core.Path.{_≡_}
 use mathlib.Core.Logic.{_≢_}
@@ -21,6 +21,7 @@ use lib.ListN.{length}
 use Rattle.sets.specs.Set.{bit, has, In, Sub, without, full, setOf}
 use Rattle.sets.specs.Graph.{row}
 use Rattle.sets.specs.Words.{width}
+use Rattle.judging.specs.Request.{Request}
 use Rattle.judging.specs.Graph.{Valid}
 use Rattle.judging.specs.Setting.{Sized, Inside}
 use Rattle.bounds.specs.Pair.{common}
@@ -46,10 +47,10 @@ pub record Pairable (g : List ℕ) (k q s : ℕ) : Type 0 where
   pub slack : k ≤ width
   pub floor : q ≤ width
 
-pub record Pairing (g : List ℕ) (k q s : ℕ) : Type 0 where
-  pub pairable : Pairable g k q s
+pub record Pairing (g : List ℕ) (ask : Request) (s : ℕ) : Type 0 where
+  pub pairable : Pairable g (ask .slack) (ask .floor) s
   pub valid : Valid g
-  pub holds : (x : ℕ) → Listed g k q x → Sub x s
+  pub holds : (x : ℕ) → Listed g ask x → Sub x s
 
 pub record Lent (g t : List ℕ) : Type 0 where
   pub sized : Sized g
@@ -59,11 +60,11 @@ pub record Written (f : ℕ → ℕ) (m : ℕ) (before t : List ℕ) : Type 0 wh
   pub long : length t ≡ length before
   pub rows : (v : ℕ) → v < m → row t v ≡ f v
 
-pub record NearAt (g : List ℕ) (k q v r : ℕ) : Type 0 where
+pub record NearAt (g : List ℕ) (ask : Request) (v r : ℕ) : Type 0 where
   pub low : r < 2 ^ length g
-  pub near : (x : ℕ) → Listed g k q x → In v x → (u : ℕ) → In u x → u ≢ v → In u r
+  pub near : (x : ℕ) → Listed g ask x → In v x → (u : ℕ) → In u x → u ≢ v → In u r
 
-pub record Filled (g : List ℕ) (k q : ℕ) (before t : List ℕ) : Type 0 where
+pub record Filled (g : List ℕ) (ask : Request) (before t : List ℕ) : Type 0 where
   pub long : length t ≡ length before
   pub low : (v : ℕ) → v < length g → row t v < 2 ^ length g
-  pub near : Near g k q t
+  pub near : Near g ask t

@@ -11,6 +11,7 @@ use lib.ListN.{length, take, drop, replicate}
 use lib.Seq.{take-at, drop-at, drop-length}
 use borrow.Author.Tests.{ltb-false}
 use Rattle.sets.specs.RangeLaws.{Mem, and-left, and-right}
+use Rattle.judging.specs.Request.{Request}
 use Rattle.judging.specs.Refusal.{Reply, refused, answered, Cause, firstOf, vertexCause, slackCause, floorCause, rowCause, edgeCause, graphCauses}
 use Rattle.judging.specs.Calls.{passed, requestCheck}
 use Rattle.judging.specs.RefusalLaws.{first-append, answered-passed, answered-value, passed-front, passed-back, passed-head}
@@ -39,112 +40,112 @@ other-number (c ∷ cs) r {n} {v} o e = go (c .holds) e (other-number cs r (and-
         (subst (λ (x : ℕ). T (eqb (c .number) x)) same (eqb-refl (c .number))))
     go false q ih = ih q
 
-module _ (g : List ℕ) (k q : ℕ) where
+module _ (g : List ℕ) (ask : Request) where
   -- ---- m is answered
 
-  module _ (room : ℕ) {m : ℕ} (e : listReply g k q room ≡ answered m tt) where
-    none-held : firstOf (requestCheck g k q ++ slotsCause room (length (listing g k q)) ∷ []) passed ≡ passed
+  module _ (room : ℕ) {m : ℕ} (e : listReply g ask room ≡ answered m tt) where
+    none-held : firstOf (requestCheck g ask ++ slotsCause room (length (listing g ask)) ∷ []) passed ≡ passed
     unfolding listReply
-    none-held = answered-passed (requestCheck g k q ++ slotsCause room (length (listing g k q)) ∷ []) (length (listing g k q)) m tt tt e
+    none-held = answered-passed (requestCheck g ask ++ slotsCause room (length (listing g ask)) ∷ []) (length (listing g ask)) m tt tt e
 
-    pub list-accepted : firstOf (requestCheck g k q) passed ≡ passed
-    list-accepted = passed-front (requestCheck g k q) (slotsCause room (length (listing g k q)) ∷ []) none-held
+    pub list-accepted : firstOf (requestCheck g ask) passed ≡ passed
+    list-accepted = passed-front (requestCheck g ask) (slotsCause room (length (listing g ask)) ∷ []) none-held
 
-    pub list-count : m ≡ length (listing g k q)
+    pub list-count : m ≡ length (listing g ask)
     unfolding listReply
-    list-count = answered-value (requestCheck g k q ++ slotsCause room (length (listing g k q)) ∷ []) (length (listing g k q)) tt e
+    list-count = answered-value (requestCheck g ask ++ slotsCause room (length (listing g ask)) ∷ []) (length (listing g ask)) tt e
 
     pub list-room : m ≤ room
     unfolding slotsCause
     list-room =
-        let cause = slotsCause room (length (listing g k q)) in
-        omega (arith, list-count, ltb-false room (length (listing g k q)) (passed-head cause [] (passed-back (requestCheck g k q) (cause ∷ []) none-held)))
+        let cause = slotsCause room (length (listing g ask)) in
+        omega (arith, list-count, ltb-false room (length (listing g ask)) (passed-head cause [] (passed-back (requestCheck g ask) (cause ∷ []) none-held)))
 
   -- the first m slots hold the list, and the others keep what they held
-  module _ (slots : List ℕ) {m : ℕ} (e : listReply g k q (length slots) ≡ answered m tt) where
-    pub slots-list : slotsAfter g k q slots ≡ listing g k q ++ drop m slots
+  module _ (slots : List ℕ) {m : ℕ} (e : listReply g ask (length slots) ≡ answered m tt) where
+    pub slots-list : slotsAfter g ask slots ≡ listing g ask ++ drop m slots
     slots-list =
         let n = list-count (length slots) e in
-        sym (slots-fit g k q (list-accepted (length slots) e) slots (omega (arith, n, list-room (length slots) e)))
-        ∙ ap (λ (x : ℕ). listing g k q ++ drop x slots) (sym n)
+        sym (slots-fit g ask (list-accepted (length slots) e) slots (omega (arith, n, list-room (length slots) e)))
+        ∙ ap (λ (x : ℕ). listing g ask ++ drop x slots) (sym n)
 
-    pub slots-first : take m (slotsAfter g k q slots) ≡ listing g k q
-    slots-first = ap (take m) slots-list ∙ take-at (listing g k q) (drop m slots) m (sym (list-count (length slots) e))
+    pub slots-first : take m (slotsAfter g ask slots) ≡ listing g ask
+    slots-first = ap (take m) slots-list ∙ take-at (listing g ask) (drop m slots) m (sym (list-count (length slots) e))
 
-    pub slots-others : drop m (slotsAfter g k q slots) ≡ drop m slots
-    slots-others = ap (drop m) slots-list ∙ drop-at (listing g k q) (drop m slots) m (sym (list-count (length slots) e))
+    pub slots-others : drop m (slotsAfter g ask slots) ≡ drop m slots
+    slots-others = ap (drop m) slots-list ∙ drop-at (listing g ask) (drop m slots) m (sym (list-count (length slots) e))
 
     -- each maximal k-plex of at least q members is in one of the first m slots, nothing else is, and they rise
-    pub first-listed : (s : ℕ) → Mem s (take m (slotsAfter g k q slots)) → Listed g k q s
-    first-listed s h = listing-sound g k q s (subst (Mem s) slots-first h)
+    pub first-listed : (s : ℕ) → Mem s (take m (slotsAfter g ask slots)) → Listed g ask s
+    first-listed s h = listing-sound g ask s (subst (Mem s) slots-first h)
 
-    pub listed-first : (s : ℕ) → Listed g k q s → Mem s (take m (slotsAfter g k q slots))
-    listed-first s h = subst (Mem s) (sym slots-first) (listing-complete g k q s h)
+    pub listed-first : (s : ℕ) → Listed g ask s → Mem s (take m (slotsAfter g ask slots))
+    listed-first s h = subst (Mem s) (sym slots-first) (listing-complete g ask s h)
 
-    pub first-rising : Rising 0 (take m (slotsAfter g k q slots))
-    first-rising = subst (Rising 0) (sym slots-first) (listing-rising g k q)
+    pub first-rising : Rising 0 (take m (slotsAfter g ask slots))
+    first-rising = subst (Rising 0) (sym slots-first) (listing-rising g ask)
 
   -- ---- number 6
 
-  module _ (slots : List ℕ) {m : ℕ} (e : listReply g k q (length slots) ≡ refused 6 m) where
-    pub short-accepted : firstOf (requestCheck g k q) passed ≡ passed
+  module _ (slots : List ℕ) {m : ℕ} (e : listReply g ask (length slots) ≡ refused 6 m) where
+    pub short-accepted : firstOf (requestCheck g ask) passed ≡ passed
     unfolding listReply requestCheck graphCauses vertexCause slackCause floorCause rowCause edgeCause lacks
     short-accepted =
-        let n = length (listing g k q) in
+        let n = length (listing g ask) in
         let last = slotsCause (length slots) n ∷ [] in
-        other-number (requestCheck g k q) (firstOf last (answered n tt)) tt (sym (first-append (requestCheck g k q) last (answered n tt)) ∙ e)
+        other-number (requestCheck g ask) (firstOf last (answered n tt)) tt (sym (first-append (requestCheck g ask) last (answered n tt)) ∙ e)
 
-    short : (m ≡ length (listing g k q)) × (length slots < m)
-    short = go (decLt (length slots) (length (listing g k q)))
+    short : (m ≡ length (listing g ask)) × (length slots < m)
+    short = go (decLt (length slots) (length (listing g ask)))
       where
-        go : Dec (length slots < length (listing g k q)) → (m ≡ length (listing g k q)) × (length slots < m)
+        go : Dec (length slots < length (listing g ask)) → (m ≡ length (listing g ask)) × (length slots < m)
         go (yes l) =
-            let f = reply-short g k q short-accepted (length slots) l in
-            let n : m ≡ length (listing g k q) = cc in
+            let f = reply-short g ask short-accepted (length slots) l in
+            let n : m ≡ length (listing g ask) = cc in
             (n, omega arith)
         go (no l) =
-            let f = reply-fits g k q short-accepted (length slots) (omega arith) in
+            let f = reply-fits g ask short-accepted (length slots) (omega arith) in
             let z : _≡_ {A = ℕ} 0 1 = cc in
             absurd (omega arith)
 
-    pub short-count : m ≡ length (listing g k q)
+    pub short-count : m ≡ length (listing g ask)
     short-count = short .0
 
     pub short-room : length slots < m
     short-room = short .1
 
-    pub short-slots : slotsAfter g k q slots ≡ replicate (length slots) 0
-    short-slots = sym (slots-short g k q short-accepted slots (omega (arith, short)))
+    pub short-slots : slotsAfter g ask slots ≡ replicate (length slots) 0
+    short-slots = sym (slots-short g ask short-accepted slots (omega (arith, short)))
 
   -- ---- m is 0: any number of slots is accepted, none included, and they are left
 
-  module _ (e : firstOf (requestCheck g k q) passed ≡ passed) (none : listing g k q ≡ []) where
-    zero : length (listing g k q) ≡ 0
+  module _ (e : firstOf (requestCheck g ask) passed ≡ passed) (none : listing g ask ≡ []) where
+    zero : length (listing g ask) ≡ 0
     zero = ap length none
 
-    pub none-reply : (room : ℕ) → listReply g k q room ≡ answered 0 tt
-    none-reply room = reply-fits g k q e room (omega (arith, zero)) ∙ ap (λ (n : ℕ). answered n tt) zero
+    pub none-reply : (room : ℕ) → listReply g ask room ≡ answered 0 tt
+    none-reply room = reply-fits g ask e room (omega (arith, zero)) ∙ ap (λ (n : ℕ). answered n tt) zero
 
-    pub none-slots : (slots : List ℕ) → slotsAfter g k q slots ≡ slots
-    none-slots slots = sym (slots-fit g k q e slots (omega (arith, zero))) ∙ ap (λ (l : List ℕ). l ++ drop (length l) slots) none
+    pub none-slots : (slots : List ℕ) → slotsAfter g ask slots ≡ slots
+    none-slots slots = sym (slots-fit g ask e slots (omega (arith, zero))) ∙ ap (λ (l : List ℕ). l ++ drop (length l) slots) none
 
-  module _ (room : ℕ) (e : listReply g k q room ≡ answered 0 tt) where
-    pub zero-none : listing g k q ≡ []
-    zero-none = ap (λ (n : ℕ). drop n (listing g k q)) (list-count room e) ∙ drop-length (listing g k q)
+  module _ (room : ℕ) (e : listReply g ask room ≡ answered 0 tt) where
+    pub zero-none : listing g ask ≡ []
+    zero-none = ap (λ (n : ℕ). drop n (listing g ask)) (list-count room e) ∙ drop-length (listing g ask)
 
-    pub zero-unlisted : (s : ℕ) → Listed g k q s → ⊥
-    zero-unlisted s h = List·Memᴰ·not-nil (subst (Mem s) zero-none (listing-complete g k q s h))
+    pub zero-unlisted : (s : ℕ) → Listed g ask s → ⊥
+    zero-unlisted s h = List·Memᴰ·not-nil (subst (Mem s) zero-none (listing-complete g ask s h))
 
-    pub zero-reply : (other : ℕ) → listReply g k q other ≡ answered 0 tt
+    pub zero-reply : (other : ℕ) → listReply g ask other ≡ answered 0 tt
     zero-reply = none-reply (list-accepted room e) zero-none
 
-    pub zero-slots : (slots : List ℕ) → slotsAfter g k q slots ≡ slots
+    pub zero-slots : (slots : List ℕ) → slotsAfter g ask slots ≡ slots
     zero-slots = none-slots (list-accepted room e) zero-none
 
   -- so it is where the floor is above n
-  module _ (e : firstOf (requestCheck g k q) passed ≡ passed) (l : length g < q) where
-    pub floor-above-reply : (room : ℕ) → listReply g k q room ≡ answered 0 tt
-    floor-above-reply = none-reply e (floor-above g k q l)
+  module _ (e : firstOf (requestCheck g ask) passed ≡ passed) (l : length g < ask .floor) where
+    pub floor-above-reply : (room : ℕ) → listReply g ask room ≡ answered 0 tt
+    floor-above-reply = none-reply e (floor-above g ask l)
 
-    pub floor-above-slots : (slots : List ℕ) → slotsAfter g k q slots ≡ slots
-    floor-above-slots = none-slots e (floor-above g k q l)
+    pub floor-above-slots : (slots : List ℕ) → slotsAfter g ask slots ≡ slots
+    floor-above-slots = none-slots e (floor-above g ask l)

@@ -1,7 +1,7 @@
 -- What the recursive search relies on, and what it hands on to its branches.
 --
---   Settled g t k q          what stays put: a valid graph that sets can hold, numbers within range, and a table of near rows
---   Ready g t k q s c count  the same, candidates c that are compatible with s, and room to count what is to be added
+--   Settled g t ask          what stays put: a valid graph that sets can hold, numbers within range, and a table of near rows
+--   Ready g t ask s c count  the same, candidates c that are compatible with s, and room to count what is to be added
 --   unless b x               the mask x alone, and nothing where b is true
 use Prim.Native.Nat.{ℕ, _+_, _^_, _≤_, _<_}
 use native.Mathlib.Omega.{arith}
@@ -19,6 +19,7 @@ use Rattle.sets.specs.BitLaws.{bit-or}
 use Rattle.sets.specs.SubsetLaws.{sub-number, in-of-sub, in-below, minus-sub, with-other, with-below}
 use Rattle.sets.specs.SizeLaws.{minus-below}
 use Rattle.sets.specs.WalkLaws.{without-less}
+use Rattle.judging.specs.Request.{Request}
 use Rattle.judging.specs.Graph.{missing, Valid}
 use Rattle.judging.specs.Refusal.{mostSlack}
 use Rattle.judging.specs.Plex.{Plex, unblocked, extendable}
@@ -32,30 +33,28 @@ use Rattle.lists.specs.PlacingLaws.{same-test, number-same, number-only, number
 use Rattle.search.specs.TrimLaws.{Joinable, Beside, trimmed-compatible}
 use Rattle.search.specs.SiftLaws.{Siftable}
 
-pub record Settled (g t : List ℕ) (k q : ℕ) : Type 0 where
+pub record Settled (g t : List ℕ) (ask : Request) : Type 0 where
   pub some : 1 ≤ length g
   pub most : length g ≤ width
   pub valid : Valid g
-  pub slack : (1 ≤ k) × (k ≤ mostSlack)
-  pub floor : q ≤ width
+  pub slack : (1 ≤ ask .slack) × (ask .slack ≤ mostSlack)
+  pub floor : ask .floor ≤ width
   pub long : length g ≤ length t
-  pub near : Near g k q t
+  pub near : Near g ask t
 
-pub record Ready (g t : List ℕ) (k q s c count : ℕ) : Type 0 where
-  pub settled : Settled g t k q
-  pub fine : Compatible g k s c
-  pub room : count + number (2 ^ length g) (found g k q s c) < 2 ^ 64
+pub record Ready (g t : List ℕ) (ask : Request) (s c count : ℕ) : Type 0 where
+  pub settled : Settled g t ask
+  pub fine : Compatible g (ask .slack) s c
 
--- what a leaf relies on: free are the vertices that no member of a blocks, and there is room to count a
-pub record LeafReady (g : List ℕ) (k a free count : ℕ) : Type 0 where
+-- what a leaf relies on: free are the vertices that no member of a blocks
+pub record LeafReady (g : List ℕ) (k a free : ℕ) : Type 0 where
   pub below : a < 2 ^ length g
   pub unblocking : free ≡ unblocked g k a
-  pub room : (T (extendable g k a) → ⊥) → count + 1 < 2 ^ 64
 
 abbrev pub unless : Bool → ℕ → ℕ → Bool
 unless b x y = not b && eqb y x
 
-module _ (g t : List ℕ) (k q s c count : ℕ) (h : Ready g t k q s c count) where
+module _ (g t : List ℕ) (ask : Request) (s c count : ℕ) (h : Ready g t ask s c count) where
   whole-below : bitOr s c < 2 ^ length g
   whole-below = or-lt (length g) s c (h .fine .below) (h .fine .candidates)
 
@@ -67,50 +66,42 @@ module _ (g t : List ℕ) (k q s c count : ℕ) (h : Ready g t k q s c count) wh
 
   -- ---- cuts: nothing is added
 
-  cut-adds : Empty g k q s c → (slots : List ℕ) → Adds (2 ^ length g) (found g k q s c) slots count slots count
-  cut-adds none slots = adds-none (2 ^ length g) (found g k q s c) slots count (cut-none g k q s c none)
+  cut-adds : Empty g ask s c → (slots : List ℕ) → Adds (2 ^ length g) (found g ask s c) slots count slots count
+  cut-adds none slots = adds-none (2 ^ length g) (found g ask s c) slots count (cut-none g ask s c none)
 
   module _ (a : ℕ) (e : a ≡ bitOr s c) (slots : List ℕ) where
-    pub short-adds : Short g k q s a → Adds (2 ^ length g) (found g k q s c) slots count slots count
-    short-adds l = cut-adds (short-empty g k q s c (subst (Short g k q s) e l)) slots
+    pub short-adds : Short g (ask .slack) (ask .floor) s a → Adds (2 ^ length g) (found g ask s c) slots count slots count
+    short-adds l = cut-adds (short-empty g ask s c (subst (Short g (ask .slack) (ask .floor) s) e l)) slots
 
-    pub extendable-adds : T (extendable g k a) → Adds (2 ^ length g) (found g k q s c) slots count slots count
-    extendable-adds l = cut-adds (extendable-empty g k q s c (h .settled .valid) (subst (λ (x : ℕ). T (extendable g k x)) e l)) slots
+    pub extendable-adds : T (extendable g (ask .slack) a) → Adds (2 ^ length g) (found g ask s c) slots count slots count
+    extendable-adds l = cut-adds (extendable-empty g ask s c (h .settled .valid) (subst (λ (x : ℕ). T (extendable g (ask .slack) x)) e l)) slots
 
-    pub stuck-adds : (w : ℕ) → In w a → k < missing g a w → (bit c w ≡ 0) × (minus c (row g w) ≡ 0) → Adds (2 ^ length g) (found g k q s c) slots count slots count
+    pub stuck-adds : (w : ℕ) → In w a → ask .slack < missing g a w → (bit c w ≡ 0) × (minus c (row g w) ≡ 0)
+        → Adds (2 ^ length g) (found g ask s c) slots count slots count
     stuck-adds w i many z =
-        cut-adds (stuck-empty g k q s c w (subst (In w) e i) (z .0) (subst (λ (x : ℕ). k < missing g x w) e many) (z .1)) slots
+        cut-adds (stuck-empty g ask s c w (subst (In w) e i) (z .0) (subst (λ (x : ℕ). ask .slack < missing g x w) e many) (z .1)) slots
 
   -- ---- a leaf
 
-  module _ (a : ℕ) (e : a ≡ bitOr s c) (p : Plex g k a) (l : q ≤ size a) where
+  module _ (a : ℕ) (e : a ≡ bitOr s c) (p : Plex g (ask .slack) a) (l : ask .floor ≤ size a) where
     -- what the leaf adds
-    pub leaf-adds : (y : ℕ) → y < 2 ^ length g → unless (extendable g k a) a y ≡ found g k q s c y
-    leaf-adds = subst (λ (x : ℕ). Plex g k x → q ≤ size x → (y : ℕ) → y < 2 ^ length g → unless (extendable g k x) x y ≡ found g k q s c y) (sym e) whole p l
+    pub leaf-adds : (y : ℕ) → y < 2 ^ length g → unless (extendable g (ask .slack) a) a y ≡ found g ask s c y
+    leaf-adds =
+        subst (λ (x : ℕ). Plex g k x → ask .floor ≤ size x → (y : ℕ) → y < 2 ^ length g → unless (extendable g k x) x y ≡ found g ask s c y) (sym e) whole p l
       where
-        whole : Plex g k (bitOr s c) → q ≤ size (bitOr s c) → (y : ℕ) → y < 2 ^ length g → unless (extendable g k (bitOr s c)) (bitOr s c) y ≡ found g k q s c y
+        k : ℕ
+        k = ask .slack
+
+        whole : Plex g k (bitOr s c) → ask .floor ≤ size (bitOr s c) → (y : ℕ) → y < 2 ^ length g
+            → unless (extendable g k (bitOr s c)) (bitOr s c) y ≡ found g ask s c y
         whole p l y ly = go (extendable g k (bitOr s c)) (λ t. t) (λ t. t)
           where
-            go : (b : Bool) → (T b → T (extendable g k (bitOr s c))) → (T (extendable g k (bitOr s c)) → T b) → unless b (bitOr s c) y ≡ found g k q s c y
-            go true into back = same-test false (found g k q s c y) (λ z. absurd z) (λ z. extendable-empty g k q s c (h .settled .valid) (into tt) y (found-holds g k q s c y ly z))
+            go : (b : Bool) → (T b → T (extendable g k (bitOr s c))) → (T (extendable g k (bitOr s c)) → T b) → unless b (bitOr s c) y ≡ found g ask s c y
+            go true into back = same-test false (found g ask s c y) (λ z. absurd z) (λ z. extendable-empty g ask s c (h .settled .valid) (into tt) y (found-holds g ask s c y ly z))
             go false into back =
-                same-test (eqb y (bitOr s c)) (found g k q s c y)
-                (λ z. subst (λ (x : ℕ). T (found g k q s c x)) (sym (eqb→eq y (bitOr s c) z)) (leaf-found g k q s c (h .settled .valid) whole-below p back l))
-                (λ z. subst (λ (x : ℕ). T (eqb y x)) (leaf-only g k q s c (h .settled .valid) whole-below p back l y ly z) (eqb-refl y))
-
-    pub leaf-room : (T (extendable g k a) → ⊥) → count + 1 < 2 ^ 64
-    leaf-room n =
-        omega (
-          arith,
-          h .room,
-          number-same (2 ^ length g) (unless (extendable g k a) a) (found g k q s c) leaf-adds,
-          number-same (2 ^ length g) (only a) (unless (extendable g k a) a) (λ y l. alone (extendable g k a) n y),
-          number-only (2 ^ length g) a (subst (λ (x : ℕ). x < 2 ^ length g) (sym e) whole-below),
-        )
-      where
-        alone : (b : Bool) → (T b → ⊥) → (y : ℕ) → only a y ≡ unless b a y
-        alone true f y = absurd (f tt)
-        alone false f y = refl
+                same-test (eqb y (bitOr s c)) (found g ask s c y)
+                (λ z. subst (λ (x : ℕ). T (found g ask s c x)) (sym (eqb→eq y (bitOr s c) z)) (leaf-found g ask s c (h .settled .valid) whole-below p back l))
+                (λ z. subst (λ (x : ℕ). T (eqb y x)) (leaf-only g ask s c (h .settled .valid) whole-below p back l y ly z) (eqb-refl y))
 
   -- ---- the two branches
 
@@ -130,7 +121,7 @@ module _ (g t : List ℕ) (k q s c count : ℕ) (h : Ready g t k q s c count) wh
           member = i;
         }
 
-    pub ready-siftable : (d : ℕ) → Beside g k q s c v d → Siftable g k q s c v d
+    pub ready-siftable : (d : ℕ) → Beside g ask s c v d → Siftable g ask s c v d
     ready-siftable d b =
         record {
           some = h .settled .some;
@@ -144,16 +135,11 @@ module _ (g t : List ℕ) (k q s c count : ℕ) (h : Ready g t k q s c count) wh
           beside = b;
         }
 
-    module _ (r : ℕ) (m : Beside g k q s c v r) where
-      with-compatible : Compatible g k (with s v) r
-      with-compatible = trimmed-compatible g k s c v r (h .settled .valid) (h .fine) i (m .kept .part) (m .blocked) (m .cheap)
+    module _ (r : ℕ) (m : Beside g ask s c v r) where
+      with-compatible : Compatible g (ask .slack) (with s v) r
+      with-compatible = trimmed-compatible g (ask .slack) s c v r (h .settled .valid) (h .fine) i (m .kept .part) (m .blocked) (m .cheap)
 
-      shared : number (2 ^ length g) (found g k q s (without c v)) + number (2 ^ length g) (found g k q (with s v) r) ≡ number (2 ^ length g) (found g k q s c)
-      shared =
-          sym (number-union (2 ^ length g) (found g k q s (without c v)) (found g k q (with s v) r) (branches-apart g k q s c v r i (h .fine .apart v i) (m .kept)))
-          ∙ number-same (2 ^ length g) (union (found g k q s (without c v)) (found g k q (with s v) r)) (found g k q s c) (branches g k q s c v r i (h .fine .apart v i) (m .kept))
-
-      pub with-boundable : Boundable g k s (with r v) v
+      pub with-boundable : Boundable g (ask .slack) s (with r v) v
       with-boundable =
           record {
             supported = record { inside = record { some = h .settled .some; most = h .settled .most; below = h .fine .below }; slack = h .settled .slack .1; plex = h .fine .plexed };
@@ -171,7 +157,7 @@ module _ (g t : List ℕ) (k q s c count : ℕ) (h : Ready g t k q s c count) wh
       pub with-falls : r < c
       with-falls = omega (arith, sub-number r (without c v) (m .kept .part), without-less c v i)
 
-      without-compatible : Compatible g k s (without c v)
+      without-compatible : Compatible g (ask .slack) s (without c v)
       without-compatible =
           record {
             below = h .fine .below;
@@ -185,34 +171,34 @@ module _ (g t : List ℕ) (k q s c count : ℕ) (h : Ready g t k q s c count) wh
         pub without-falls : rest < c
         without-falls = subst (λ (x : ℕ). x < c) (sym e) (without-less c v i)
 
-        pub without-ready : Ready g t k q s rest count
+        pub without-ready : Ready g t ask s rest count
         without-ready =
-            subst (λ (x : ℕ). Ready g t k q s x count) (sym e) (record { settled = h .settled; fine = without-compatible; room = omega (arith, h .room, shared) })
+            subst (λ (x : ℕ). Ready g t ask s x count) (sym e) (record { settled = h .settled; fine = without-compatible })
 
-        module _ (before between : List ℕ) (n : ℕ) (x : Adds (2 ^ length g) (found g k q s rest) before count between n) where
-          others : Adds (2 ^ length g) (found g k q s (without c v)) before count between n
-          others = subst (λ (u : ℕ). Adds (2 ^ length g) (found g k q s u) before count between n) e x
+        module _ (before between : List ℕ) (n : ℕ) (x : Adds (2 ^ length g) (found g ask s rest) before count between n) where
+          others : Adds (2 ^ length g) (found g ask s (without c v)) before count between n
+          others = subst (λ (u : ℕ). Adds (2 ^ length g) (found g ask s u) before count between n) e x
 
           -- where the branch with v is cut, the other has added all
-          pub without-adds : Empty g k q (with s v) r → Adds (2 ^ length g) (found g k q s c) before count between n
+          pub without-adds : Empty g ask (with s v) r → Adds (2 ^ length g) (found g ask s c) before count between n
           without-adds cut =
-              adds-same (2 ^ length g) (found g k q s (without c v)) (found g k q s c) before between count n
-              (branch-without g k q s c v r i (h .fine .apart v i) (m .kept) cut) others
+              adds-same (2 ^ length g) (found g ask s (without c v)) (found g ask s c) before between count n
+              (branch-without g ask s c v r i (h .fine .apart v i) (m .kept) cut) others
 
           module _ (j : ℕ) (z : j ≡ with s v) where
             -- after the branch without v
-            pub with-ready : Ready g t k q j r n
+            pub with-ready : Ready g t ask j r n
             with-ready =
-                subst (λ (u : ℕ). Ready g t k q u r n) (sym z)
-                (record { settled = h .settled; fine = with-compatible; room = omega (arith, h .room, shared, others .counts) })
+                subst (λ (u : ℕ). Ready g t ask u r n) (sym z)
+                (record { settled = h .settled; fine = with-compatible })
 
-            pub branches-add : (after : List ℕ) (o : ℕ) → Adds (2 ^ length g) (found g k q j r) between n after o → Adds (2 ^ length g) (found g k q s c) before count after o
+            pub branches-add : (after : List ℕ) (o : ℕ) → Adds (2 ^ length g) (found g ask j r) between n after o → Adds (2 ^ length g) (found g ask s c) before count after o
             branches-add after o y =
-                adds-same (2 ^ length g) (union (found g k q s (without c v)) (found g k q (with s v) r)) (found g k q s c) before after count o
-                (branches g k q s c v r i (h .fine .apart v i) (m .kept))
-                (adds-both (2 ^ length g) (found g k q s (without c v)) (found g k q (with s v) r) before between after count n o
-                (branches-apart g k q s c v r i (h .fine .apart v i) (m .kept)) others
-                (subst (λ (u : ℕ). Adds (2 ^ length g) (found g k q u r) between n after o) z y))
+                adds-same (2 ^ length g) (union (found g ask s (without c v)) (found g ask (with s v) r)) (found g ask s c) before after count o
+                (branches g ask s c v r i (h .fine .apart v i) (m .kept))
+                (adds-both (2 ^ length g) (found g ask s (without c v)) (found g ask (with s v) r) before between after count n o
+                (branches-apart g ask s c v r i (h .fine .apart v i) (m .kept)) others
+                (subst (λ (u : ℕ). Adds (2 ^ length g) (found g ask u r) between n after o) z y))
 
 -- ---- what a leaf adds, where it is known whether it is to be placed
 

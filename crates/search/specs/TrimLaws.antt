@@ -1,6 +1,6 @@
 -- Laws of trimming: a candidate that no listed plex holds beside the set s may go, and what stays is compatible with s.
 --
---   Kept g k q s c r       r is c less some vertices that no listed plex between s and s with c has
+--   Kept g ask s c r       r is c less some vertices that no listed plex between s and s with c has
 --   Blocked g k s v r      a member of s that v is not adjacent to and that misses k or more of s is adjacent to all of r
 --   Cheap g k s v r        a vertex of r that v is not adjacent to misses fewer than k of s
 use Prim.Native.Nat.{ℕ, _^_, _≤_, _<_}
@@ -21,15 +21,16 @@ use Rattle.sets.specs.BitLaws.{bit-le, bit-and, bit-or, bit-minus}
 use Rattle.sets.specs.SubsetLaws.{sub-refl, sub-trans, sub-below, with-sub, with-same, with-other, with-below, sub-with, in-of-sub, in-below, without-same, without-other, minus-sub}
 use Rattle.sets.specs.SizeLaws.{and-below, minus-below}
 use Rattle.sets.specs.WalkLaws.{Walked, walk-none, walk-next, walk-map, walk-all}
+use Rattle.judging.specs.Request.{Request, request}
 use Rattle.judging.specs.Graph.{missing, Valid}
 use Rattle.judging.specs.Plex.{Plex}
 use Rattle.judging.specs.GraphLaws.{missing-mono, missing-with}
 use Rattle.lists.specs.Listing.{Listed}
 use Rattle.search.specs.Found.{Found, Compatible, Near}
 
-pub record Kept (g : List ℕ) (k q s c r : ℕ) : Type 0 where
+pub record Kept (g : List ℕ) (ask : Request) (s c r : ℕ) : Type 0 where
   pub part : Sub r c
-  pub keeps : (x : ℕ) → Found g k q s c x → (u : ℕ) → In u x → In u c → In u r
+  pub keeps : (x : ℕ) → Found g ask s c x → (u : ℕ) → In u x → In u c → In u r
 
 abbrev pub Blocked : List ℕ → ℕ → ℕ → ℕ → ℕ → Type 0
 Blocked g k s v r = (u : ℕ) → In u s → bit (row g v) u ≡ 0 → k ≤ missing g s u → Sub r (row g u)
@@ -38,19 +39,19 @@ abbrev pub Cheap : List ℕ → ℕ → ℕ → ℕ → ℕ → Type 0
 Cheap g k s v r = (w : ℕ) → In w r → bit (row g v) w ≡ 0 → missing g s w < k
 
 -- what is left of the candidates c once v joins s
-pub record Beside (g : List ℕ) (k q s c v r : ℕ) : Type 0 where
-  pub kept : Kept g k q (with s v) (without c v) r
-  pub blocked : Blocked g k (with s v) v r
-  pub cheap : Cheap g k (with s v) v r
+pub record Beside (g : List ℕ) (ask : Request) (s c v r : ℕ) : Type 0 where
+  pub kept : Kept g ask (with s v) (without c v) r
+  pub blocked : Blocked g (ask .slack) (with s v) v r
+  pub cheap : Cheap g (ask .slack) (with s v) v r
 
-module _ (g : List ℕ) (k q s : ℕ) where
-  pub kept-all : (c : ℕ) → Kept g k q s c c
+module _ (g : List ℕ) (ask : Request) (s : ℕ) where
+  pub kept-all : (c : ℕ) → Kept g ask s c c
   kept-all c = record { part = sub-refl c; keeps = λ x f u e m. m }
 
-  pub kept-trans : (c d r : ℕ) → Kept g k q s c d → Kept g k q s d r → Kept g k q s c r
+  pub kept-trans : (c d r : ℕ) → Kept g ask s c d → Kept g ask s d r → Kept g ask s c r
   kept-trans c d r a b = record { part = sub-trans r d c (b .part) (a .part); keeps = λ x f u e m. b .keeps x (within x f) u e (a .keeps x f u e m) }
     where
-      within : (x : ℕ) → Found g k q s c x → Found g k q s d x
+      within : (x : ℕ) → Found g ask s c x → Found g ask s d x
       within x f = record { lower = f .lower; upper = λ u. go u (ℕ-discrete (bit x u) 1) (ℕ-discrete (bit c u) 1); listed = f .listed }
         where
           go : (u : ℕ) → Dec (bit x u ≡ 1) → Dec (bit c u ≡ 1) → bit x u ≤ bit (bitOr s d) u
@@ -59,7 +60,7 @@ module _ (g : List ℕ) (k q s : ℕ) where
           go u (yes i) (no n) = omega (arith, f .upper u, bit-or s c u, bit-or s d u, bit-le c u)
 
   -- candidates outside the near row of a member may go
-  pub kept-near : (t : List ℕ) (c v : ℕ) → v < length g → In v s → bit c v ≡ 0 → Near g k q t → Kept g k q s c (bitAnd c (row t v))
+  pub kept-near : (t : List ℕ) (c v : ℕ) → v < length g → In v s → bit c v ≡ 0 → Near g ask t → Kept g ask s c (bitAnd c (row t v))
   kept-near t c v l e out near =
       record {
         part = λ u. omega (arith, bit-and c (row t v) u);
@@ -70,23 +71,23 @@ module _ (g : List ℕ) (k q s : ℕ) where
       differ u m z = omega (arith, subst (λ (y : ℕ). bit c y ≡ 1) z m)
 
   -- a plex that holds s and w: a member of s that misses k or more of s is adjacent to w, and w misses fewer than k of s
-  module _ (x w : ℕ) (h : Listed g k q x) (i : Sub s x) (e : In w x) (out : bit s w ≡ 0) where
+  module _ (x w : ℕ) (h : Listed g ask x) (i : Sub s x) (e : In w x) (out : bit s w ≡ 0) where
     grown : Sub (with s w) x
     grown = with-sub s w x i e
 
-    pub saturated-adjacent : (u : ℕ) → In u s → k ≤ missing g s u → In w (row g u)
+    pub saturated-adjacent : (u : ℕ) → In u s → ask .slack ≤ missing g s u → In w (row g u)
     saturated-adjacent u eu m =
         let lu = in-below (length g) x u (h .below) (in-of-sub s x u i eu) in
         omega (arith, missing-with g s w u out, bit-le (row g u) w, missing-mono g (with s w) x u grown, h .top .0 u lu (in-of-sub s x u i eu))
 
-    pub member-cheap : Valid g → missing g s w < k
+    pub member-cheap : Valid g → missing g s w < ask .slack
     member-cheap ok =
         let lw = in-below (length g) x w (h .below) e in
         omega (arith, missing-with g s w w out, ok .loopless w lw, missing-mono g (with s w) x w grown, h .top .0 w lw e)
 
   module _ (c : ℕ) (apart : (w : ℕ) → In w c → bit s w ≡ 0) where
     -- so the candidates that such a member is not adjacent to may go
-    pub kept-meet : (d u : ℕ) → Sub d c → In u s → k ≤ missing g s u → Kept g k q s d (bitAnd d (row g u))
+    pub kept-meet : (d u : ℕ) → Sub d c → In u s → ask .slack ≤ missing g s u → Kept g ask s d (bitAnd d (row g u))
     kept-meet d u p e m =
         record {
           part = λ w. omega (arith, bit-and d (row g u) w);
@@ -94,16 +95,17 @@ module _ (g : List ℕ) (k q s : ℕ) where
         }
 
     -- and so may a candidate that misses k or more
-    pub kept-without : (d w : ℕ) → Valid g → Sub d c → k ≤ missing g s w → Kept g k q s d (without d w)
+    pub kept-without : (d w : ℕ) → Valid g → Sub d c → ask .slack ≤ missing g s w → Kept g ask s d (without d w)
     kept-without d w ok p m =
         record {
           part = minus-sub d (2 ^ w);
           keeps = λ x f y e md. go x (f .listed) (f .lower) y e md (ℕ-discrete w y);
         }
       where
-        go : (x : ℕ) → Listed g k q x → Sub s x → (y : ℕ) → In y x → In y d → Dec (w ≡ y) → In y (without d w)
+        go : (x : ℕ) → Listed g ask x → Sub s x → (y : ℕ) → In y x → In y d → Dec (w ≡ y) → In y (without d w)
         go x h i y e md (no nz) = omega (arith, without-other d w y nz)
-        go x h i y e md (yes z) = absurd (omega (arith, subst (λ (u : ℕ). missing g s u < k) (sym z) (member-cheap x y h i e (apart y (in-of-sub d c y p md)) ok)))
+        go x h i y e md (yes z) =
+            absurd (omega (arith, subst (λ (u : ℕ). missing g s u < ask .slack) (sym z) (member-cheap x y h i e (apart y (in-of-sub d c y p md)) ok)))
 
 -- ---- what is left is compatible with the set that v joined
 
@@ -192,13 +194,13 @@ pub record Trimmable (g : List ℕ) (s c v : ℕ) : Type 0 where
 
 -- the members that block candidates, seen one by one
 pub record Blocking (g : List ℕ) (k s v c left r : ℕ) : Type 0 where
-  pub kept : (q : ℕ) → Kept g k q s c r
+  pub kept : (ask : Request) → ask .slack ≡ k → Kept g ask s c r
   pub walked : Walked (λ u. k ≤ missing g s u → Sub r (row g u)) (minus s (row g v)) left
 
 module _ (g : List ℕ) (k s v c : ℕ) (h : Trimmable g s c v) where
   pub blocking-none : Blocking g k s v c (minus s (row g v)) c
   blocking-none =
-      record { kept = λ q. kept-all g k q s c; walked = walk-none (λ u. k ≤ missing g s u → Sub c (row g u)) (minus s (row g v)) }
+      record { kept = λ ask z. kept-all g ask s c; walked = walk-none (λ u. k ≤ missing g s u → Sub c (row g u)) (minus s (row g v)) }
 
   module _ (left d u r : ℕ) (e : r ≡ without left u) (w : Blocking g k s v c left d) where
     pub blocking-same : missing g s u < k → Blocking g k s v c r d
@@ -209,7 +211,8 @@ module _ (g : List ℕ) (k s v c : ℕ) (h : Trimmable g s c v) where
     blocking-meet p f i m =
         subst (Blocking g k s v c r) (sym f)
         (record {
-          kept = λ q. kept-trans g k q s c d (bitAnd d (row g u)) (w .kept q) (kept-meet g k q s c (h .apart) d u (w .kept q .part) i m);
+          kept = λ ask z.
+              kept-trans g ask s c d (bitAnd d (row g u)) (w .kept ask z) (kept-meet g ask s c (h .apart) d u (w .kept ask z .part) i (omega (arith, m, z)));
           walked =
               walk-next (λ y. k ≤ missing g s y → Sub (bitAnd d (row g u)) (row g y)) (minus s (row g v)) left u r e
               (walk-map (λ y. k ≤ missing g s y → Sub d (row g y)) (λ y. k ≤ missing g s y → Sub (bitAnd d (row g u)) (row g y)) (minus s (row g v)) left
@@ -223,13 +226,13 @@ module _ (g : List ℕ) (k s v c : ℕ) (h : Trimmable g s c v) where
 
 -- the candidates that miss too much, seen one by one
 pub record Cheapening (g : List ℕ) (k s v c left r : ℕ) : Type 0 where
-  pub kept : (q : ℕ) → Kept g k q s c r
+  pub kept : (ask : Request) → ask .slack ≡ k → Kept g ask s c r
   pub walked : Walked (λ w. k ≤ missing g s w → bit r w ≡ 0) (minus c (row g v)) left
 
 module _ (g : List ℕ) (k s v c : ℕ) (h : Trimmable g s c v) where
   pub cheapening-none : Cheapening g k s v c (minus c (row g v)) c
   cheapening-none =
-      record { kept = λ q. kept-all g k q s c; walked = walk-none (λ w. k ≤ missing g s w → bit c w ≡ 0) (minus c (row g v)) }
+      record { kept = λ ask z. kept-all g ask s c; walked = walk-none (λ w. k ≤ missing g s w → bit c w ≡ 0) (minus c (row g v)) }
 
   module _ (left d u r : ℕ) (e : r ≡ without left u) (w : Cheapening g k s v c left d) where
     pub cheapening-same : missing g s u < k → Cheapening g k s v c r d
@@ -240,7 +243,9 @@ module _ (g : List ℕ) (k s v c : ℕ) (h : Trimmable g s c v) where
     cheapening-without p f m =
         subst (Cheapening g k s v c r) (sym f)
         (record {
-          kept = λ q. kept-trans g k q s c d (without d u) (w .kept q) (kept-without g k q s c (h .apart) d u (h .valid) (w .kept q .part) m);
+          kept = λ ask z.
+              kept-trans g ask s c d (without d u) (w .kept ask z)
+              (kept-without g ask s c (h .apart) d u (h .valid) (w .kept ask z .part) (omega (arith, m, z)));
           walked =
               walk-next (λ y. k ≤ missing g s y → bit (without d u) y ≡ 0) (minus c (row g v)) left u r e
               (walk-map (λ y. k ≤ missing g s y → bit d y ≡ 0) (λ y. k ≤ missing g s y → bit (without d u) y ≡ 0) (minus c (row g v)) left
@@ -265,17 +270,17 @@ module _ (g : List ℕ) (k s v c : ℕ) (h : Trimmable g s c v) where
           absurd (omega (
             arith,
             walk-all (λ u. k ≤ missing g s u → bit r u ≡ 0) (minus c (row g v)) left z (w .walked) y
-                (omega (arith, bit-minus c (row g v) y, w .kept 0 .part y, bit-le c y)) (omega arith),
+                (omega (arith, bit-minus c (row g v) y, w .kept (request k 0) refl .part y, bit-le c y)) (omega arith),
           ))
 
 -- ---- one after the other
 
 pub record Unblocked (g : List ℕ) (k s v c r : ℕ) : Type 0 where
-  pub kept : (q : ℕ) → Kept g k q s c r
+  pub kept : (ask : Request) → ask .slack ≡ k → Kept g ask s c r
   pub blocked : Blocked g k s v r
 
 pub record Cheapened (g : List ℕ) (k s v c r : ℕ) : Type 0 where
-  pub kept : (q : ℕ) → Kept g k q s c r
+  pub kept : (ask : Request) → ask .slack ≡ k → Kept g ask s c r
   pub cheap : Cheap g k s v r
 
 pub still-trimmable : (g : List ℕ) (k s v c d : ℕ) → Trimmable g s c v → Unblocked g k s v c d → Trimmable g s d v
@@ -284,8 +289,8 @@ still-trimmable g k s v c d h a =
       most = h .most;
       valid = h .valid;
       below = h .below;
-      candidates = sub-below (length g) d c (a .kept 0 .part) (h .candidates);
-      apart = λ w i. h .apart w (in-of-sub d c w (a .kept 0 .part) i);
+      candidates = sub-below (length g) d c (a .kept (request k 0) refl .part) (h .candidates);
+      apart = λ w i. h .apart w (in-of-sub d c w (a .kept (request k 0) refl .part) i);
       vertex = h .vertex;
     }
 
@@ -325,17 +330,17 @@ module _ (g t : List ℕ) (s c v : ℕ) (h : Joinable g t s c v) where
             let differ : v ≢ w = λ z. omega (arith, out, subst (λ (y : ℕ). bit (without c v) y ≡ 0) z (without-same c v)) in
             omega (arith, with-other s v w differ, h .apart w inc)
 
-    pub beside-all : (k d2 r : ℕ) → Unblocked g k j v d d2 → Cheapened g k j v d2 r → (q : ℕ) → Near g k q t → Beside g k q s c v r
-    beside-all k d2 r a b q near =
-        subst (λ (x : ℕ). Unblocked g k x v d d2 → Cheapened g k x v d2 r → Beside g k q s c v r) (sym e) joined a b
+    pub beside-all : (k d2 r : ℕ) → Unblocked g k j v d d2 → Cheapened g k j v d2 r → (ask : Request) → ask .slack ≡ k → Near g ask t → Beside g ask s c v r
+    beside-all k d2 r a b ask z near =
+        subst (λ (x : ℕ). Unblocked g k x v d d2 → Cheapened g k x v d2 r → Beside g ask s c v r) (sym e) joined a b
       where
-        joined : Unblocked g k (with s v) v d d2 → Cheapened g k (with s v) v d2 r → Beside g k q s c v r
+        joined : Unblocked g k (with s v) v d d2 → Cheapened g k (with s v) v d2 r → Beside g ask s c v r
         joined a b =
             record {
               kept =
-                  kept-trans g k q (with s v) (without c v) d r
-                  (subst (Kept g k q (with s v) (without c v)) (sym f) (kept-near g k q (with s v) t (without c v) v joinable-vertex (with-same s v) (without-same c v) near))
-                  (kept-trans g k q (with s v) d d2 r (a .kept q) (b .kept q));
-              blocked = λ u i far m. sub-trans r d2 (row g u) (b .kept 0 .part) (a .blocked u i far m);
-              cheap = b .cheap;
+                  kept-trans g ask (with s v) (without c v) d r
+                  (subst (Kept g ask (with s v) (without c v)) (sym f) (kept-near g ask (with s v) t (without c v) v joinable-vertex (with-same s v) (without-same c v) near))
+                  (kept-trans g ask (with s v) d d2 r (a .kept ask z) (b .kept ask z));
+              blocked = λ u i far m. sub-trans r d2 (row g u) (b .kept ask z .part) (a .blocked u i far (omega (arith, m, z)));
+              cheap = λ w i far. omega (arith, z, b .cheap w i far);
             }

@@ -2,6 +2,7 @@
 ghost use Prim.Native.Nat.{_^_};
 ghost use lib.ListN.{length};
 ghost use Rattle.sets.specs.Words.{mask, masks};
+ghost use Rattle.judging.specs.Request.{request};
 ghost use Rattle.judging.specs.Plex.{extendable};
 ghost use Rattle.search.specs.Found.{found};
 ghost use Rattle.lists.specs.Placing.{Adds};
@@ -10,7 +11,7 @@ use sets::Set;
 
 // Places the plex a, unless a vertex can be added to it.
 fn leaf(rows: &[u64], k: usize, a: Set, free: Set, slots: &mut [u64], count: usize) -> usize
-    requires { ⌜ LeafReady (masks (now rows)) k (mask a) (mask free) count ⌝ }
+    requires { ⌜ LeafReady (masks (now rows)) k (mask a) (mask free) ⌝ }
     ensures { λ r. ⌜ Adds (2 ^ length (masks (now (rows .entry)))) (unless (extendable (masks (now (rows .entry))) k (mask a)) (mask a))
         (masks (now (slots .entry))) count (masks (now (slots .exit))) r ⌝ }
 {
@@ -36,8 +37,8 @@ pub fn branch(
     slots: &mut [u64],
     count: usize,
 ) -> usize
-    requires { ⌜ Ready (masks (now rows)) (masks (now near)) k q (mask s) (mask c) count ⌝ }
-    ensures { λ r. ⌜ Adds (2 ^ length (masks (now (rows .entry)))) (found (masks (now (rows .entry))) k q (mask s) (mask c))
+    requires { ⌜ Ready (masks (now rows)) (masks (now near)) (request k q) (mask s) (mask c) count ⌝ }
+    ensures { λ r. ⌜ Adds (2 ^ length (masks (now (rows .entry)))) (found (masks (now (rows .entry))) (request k q) (mask s) (mask c))
         (masks (now (slots .entry))) count (masks (now (slots .exit))) r ⌝ }
 {
     let a = sets::join(s, c);

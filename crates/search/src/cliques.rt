@@ -7,9 +7,11 @@ ghost use lib.Dec.{ltb};
 ghost use lib.ListN.{length};
 ghost use Rattle.sets.specs.Set.{size, with};
 ghost use Rattle.sets.specs.Words.{width, mask, masks};
+ghost use Rattle.judging.specs.Request.{request};
 ghost use Rattle.lists.specs.Placing.{Adds};
+ghost use Rattle.judging.specs.Setting.{Inside};
 ghost use Rattle.search.specs.Ready.{unless};
-ghost use Rattle.search.specs.Cliques.{Covering, Placeable, Taking, Sweeping, touched};
+ghost use Rattle.search.specs.Cliques.{Common, Covering, Taking, Sweeping, touched};
 ghost use Rattle.search.specs.Found.{found};
 ghost use Rattle.search.specs.Choice.{Pickable};
 use sets::Set;
@@ -49,7 +51,7 @@ fn pivot(rows: &[u64], c: Set, m: Set, few: usize) -> Set
 }
 
 // The candidates to take one after the other: those of a pivot.
-pub fn agenda(rows: &[u64], c: Set, m: Set, far: bool) -> Set
+fn agenda(rows: &[u64], c: Set, m: Set, far: bool) -> Set
     requires { ⌜ Pickable (masks (now rows)) (mask m) ⌝ }
     ensures { λ r. ⌜ Covering (masks (now (rows .entry))) (mask c) (mask m) (mask r) ⌝ }
 {
@@ -61,7 +63,7 @@ pub fn agenda(rows: &[u64], c: Set, m: Set, far: bool) -> Set
 
 // Places the clique s, which is maximal, if its `have` members are enough.
 fn place_clique(q: usize, have: usize, s: Set, n: usize, slots: &mut [u64], count: usize) -> usize
-    requires { ⌜ Placeable n q have (mask s) count ⌝ }
+    requires { ⌜ mask s < 2 ^ n ⌝ }
     ensures { λ r. ⌜ Adds (2 ^ n) (unless (ltb have q) (mask s)) (masks (now (slots .entry))) count (masks (now (slots .exit))) r ⌝ }
 {
     if have < q {
@@ -80,8 +82,8 @@ fn end(
     slots: &mut [u64],
     count: usize,
 ) -> usize
-    requires { ⌜ Taking (masks (now rows)) q have (mask s) 0 (mask m) count ⌝ }
-    ensures { λ r. ⌜ Adds (2 ^ length (masks (now (rows .entry)))) (found (masks (now (rows .entry))) 1 q (mask s) 0)
+    requires { ⌜ Taking (masks (now rows)) (request 1 q) have (mask s) 0 (mask m) count ⌝ }
+    ensures { λ r. ⌜ Adds (2 ^ length (masks (now (rows .entry)))) (found (masks (now (rows .entry))) (request 1 q) (mask s) 0)
         (masks (now (slots .entry))) count (masks (now (slots .exit))) r ⌝ }
 {
     if sets::is_empty(m) {
@@ -101,8 +103,8 @@ fn end_with(
     slots: &mut [u64],
     count: usize,
 ) -> usize
-    requires { ⌜ Taking (masks (now rows)) q have (mask s) (2 ^ v) (mask m) count ⌝ }
-    ensures { λ r. ⌜ Adds (2 ^ length (masks (now (rows .entry)))) (found (masks (now (rows .entry))) 1 q (mask s) (2 ^ v))
+    requires { ⌜ Taking (masks (now rows)) (request 1 q) have (mask s) (2 ^ v) (mask m) count ⌝ }
+    ensures { λ r. ⌜ Adds (2 ^ length (masks (now (rows .entry)))) (found (masks (now (rows .entry))) (request 1 q) (mask s) (2 ^ v))
         (masks (now (slots .entry))) count (masks (now (slots .exit))) r ⌝ }
 {
     let beside = sets::meet(m, sets::get(rows, v));
@@ -121,8 +123,8 @@ fn end_pair(
     slots: &mut [u64],
     count: usize,
 ) -> usize
-    requires { ⌜ Taking (masks (now rows)) q have (mask s) (with (2 ^ u) v) (mask m) count × (u ≢ v) ⌝ }
-    ensures { λ r. ⌜ Adds (2 ^ length (masks (now (rows .entry)))) (found (masks (now (rows .entry))) 1 q (mask s) (with (2 ^ u) v))
+    requires { ⌜ Taking (masks (now rows)) (request 1 q) have (mask s) (with (2 ^ u) v) (mask m) count × (u ≢ v) ⌝ }
+    ensures { λ r. ⌜ Adds (2 ^ length (masks (now (rows .entry)))) (found (masks (now (rows .entry))) (request 1 q) (mask s) (with (2 ^ u) v))
         (masks (now (slots .entry))) count (masks (now (slots .exit))) r ⌝ }
 {
     let row = sets::get(rows, u);
@@ -148,9 +150,24 @@ fn is_few(q: usize, have: usize, c: Set) -> bool
     have + sets::size(c) < q
 }
 
+// The vertices that are adjacent to every member of s.
+pub fn common(rows: &[u64], s: Set) -> Set
+    requires { ⌜ Inside (masks (now rows)) (mask s) ⌝ }
+    ensures { λ r. ⌜ Common (masks (now (rows .entry))) (mask s) (mask r) ⌝ }
+{
+    let mut shared = sets::full(sets::count(rows));
+    let mut left = s;
+    while !sets::is_empty(left) {
+        let v = sets::lowest(left);
+        left = sets::rest(left, v);
+        shared = sets::meet(shared, sets::get(rows, v));
+    }
+    shared
+}
+
 // Places every listed clique that holds s, which has `have` members, and has no vertex outside s and c. The common neighbours of s are m.
 // Most calls have at most two candidates, which need no pivot.
-fn take(
+pub fn take(
     rows: &[u64],
     q: usize,
     have: usize,
@@ -160,8 +177,8 @@ fn take(
     slots: &mut [u64],
     count: usize,
 ) -> usize
-    requires { ⌜ Taking (masks (now rows)) q have (mask s) (mask c) (mask m) count ⌝ }
-    ensures { λ r. ⌜ Adds (2 ^ length (masks (now (rows .entry)))) (found (masks (now (rows .entry))) 1 q (mask s) (mask c))
+    requires { ⌜ Taking (masks (now rows)) (request 1 q) have (mask s) (mask c) (mask m) count ⌝ }
+    ensures { λ r. ⌜ Adds (2 ^ length (masks (now (rows .entry)))) (found (masks (now (rows .entry))) (request 1 q) (mask s) (mask c))
         (masks (now (slots .entry))) count (masks (now (slots .exit))) r ⌝ }
 {
     if sets::is_empty(c) {
@@ -186,7 +203,7 @@ fn take(
 
 // Places those that have a vertex of `todo` and none outside s, `base` and `todo`. A vertex that was taken joins `base`, so the cliques come by their
 // highest vertex of `todo`.
-pub fn sweep(
+fn sweep(
     rows: &[u64],
     q: usize,
     have: usize,
@@ -197,8 +214,8 @@ pub fn sweep(
     slots: &mut [u64],
     count: usize,
 ) -> usize
-    requires { ⌜ Sweeping (masks (now rows)) q have (mask s) (mask base) (mask m) (mask todo) count ⌝ }
-    ensures { λ r. ⌜ Adds (2 ^ length (masks (now (rows .entry)))) (touched (masks (now (rows .entry))) q (mask s) (mask base) (mask todo))
+    requires { ⌜ Sweeping (masks (now rows)) (request 1 q) have (mask s) (mask base) (mask m) (mask todo) count ⌝ }
+    ensures { λ r. ⌜ Adds (2 ^ length (masks (now (rows .entry)))) (touched (masks (now (rows .entry))) (request 1 q) (mask s) (mask base) (mask todo))
         (masks (now (slots .entry))) count (masks (now (slots .exit))) r ⌝ }
 {
     let more = have + 1;

@@ -5,6 +5,7 @@ ghost use Prim.Native.Nat.{_≤_};
 ghost use lib.Dec.{T};
 ghost use Rattle.sets.specs.Set.{size, with};
 ghost use Rattle.sets.specs.Words.{mask, masks};
+ghost use Rattle.judging.specs.Request.{request};
 ghost use Rattle.judging.specs.Plex.{unblocked, extendable};
 ghost use Rattle.bounds.specs.BoundSetting.{Boundable};
 ghost use Rattle.search.specs.Found.{Short, Empty};
@@ -44,7 +45,7 @@ pub fn is_extendable(rows: &[u64], k: usize, extension: bool, a: Set, free: Set)
 // Has no listed plex that holds s and v, and no vertex outside s, v and c, at least q members: by the second bound?
 pub fn is_bounded(rows: &[u64], k: usize, q: usize, second: bool, s: Set, c: Set, v: usize) -> bool
     requires { ⌜ Boundable (masks (now rows)) k (mask s) (with (mask c) v) v ⌝ }
-    ensures { λ r. ⌜ (r ≡ true → Empty (masks (now (rows .entry))) k q (with (mask s) v) (mask c)) ⌝ }
+    ensures { λ r. ⌜ (r ≡ true → Empty (masks (now (rows .entry))) (request k q) (with (mask s) v) (mask c)) ⌝ }
 {
     if second {
         return bounds::bound::second_bound(rows, k, s, sets::with(c, v), v) < q;

@@ -2,9 +2,11 @@
 ghost use lib.ListN.{length};
 ghost use Prim.Native.Nat.{_^_};
 ghost use Rattle.sets.specs.Words.{mask, masks};
+ghost use Rattle.judging.specs.Request.{request, asked};
 ghost use Rattle.lists.specs.Listing.{listed};
 ghost use Rattle.lists.specs.Placing.{Adds};
-ghost use Rattle.search.specs.TopLaws.{Accepted, Candidates};
+ghost use Rattle.search.specs.Found.{found};
+ghost use Rattle.search.specs.TopLaws.{Accepted, Candidates, Startable};
 ghost use Rattle.search.specs.Calls.{Lists};
 
 mod branch;
@@ -40,8 +42,8 @@ pub struct Cuts {
 
 // The vertices to start from: the core, or all.
 fn candidates(rows: &[u64], k: usize, q: usize, core: bool) -> Set
-    requires { ⌜ Accepted (masks (now rows)) k q ⌝ }
-    ensures { λ r. ⌜ Candidates (masks (now (rows .entry))) k q (mask r) ⌝ }
+    requires { ⌜ Accepted (masks (now rows)) (request k q) ⌝ }
+    ensures { λ r. ⌜ Candidates (masks (now (rows .entry))) (request k q) (mask r) ⌝ }
 {
     if core {
         return bounds::core::core(rows, q - k);
@@ -57,26 +59,27 @@ fn sifted(pairs: bool) -> usize {
     0
 }
 
-// What `enumerate` does for slack 1, by a pivot.
-fn enumerate_cliques(rows: &[u64], q: usize, all: Set, slots: &mut [u64]) -> usize
-    requires { ⌜ Accepted (masks (now rows)) 1 q × Candidates (masks (now rows)) 1 q (mask all) ⌝ }
-    ensures { λ r. ⌜ Adds (2 ^ length (masks (now (rows .entry)))) (listed (masks (now (rows .entry))) 1 q) (masks (now (slots .entry))) 0 (masks (now (slots .exit))) r ⌝ }
+// Places every listed plex that holds s and has no member outside s and c, while the slots have room, and gives the new count. Every listed plex lies in `all`.
+// The search starts from anywhere; it is the whole list from the empty set and `all`.
+fn enumerate_from(
+    rows: &[u64],
+    k: usize,
+    q: usize,
+    cuts: Cuts,
+    all: Set,
+    s: Set,
+    c: Set,
+    slots: &mut [u64],
+    count: usize,
+) -> usize
+    requires { ⌜ Startable (masks (now rows)) (request k q) (mask all) (mask s) (mask c) ⌝ }
+    ensures { λ r. ⌜ Adds (2 ^ length (masks (now (rows .entry)))) (found (masks (now (rows .entry))) (request k q) (mask s) (mask c))
+        (masks (now (slots .entry))) count (masks (now (slots .exit))) r ⌝ }
 {
-    let every = sets::full(sets::count(rows));
-    let todo = cliques::agenda(rows, all, every, false);
-    let base = sets::minus(all, todo);
-    cliques::sweep(rows, q, 0, sets::empty(), base, every, todo, slots, 0)
-}
-
-// Places every maximal k-plex of at least q members while the slots have room, and counts them all.
-fn enumerate(rows: &[u64], k: usize, q: usize, cuts: Cuts, slots: &mut [u64]) -> usize
-    requires { ⌜ Accepted (masks (now rows)) k q ⌝ }
-    ensures { λ r. ⌜ Adds (2 ^ length (masks (now (rows .entry)))) (listed (masks (now (rows .entry))) k q) (masks (now (slots .entry))) 0 (masks (now (slots .exit))) r ⌝ }
-{
-    let all = candidates(rows, k, q, cuts.core);
     if cuts.pivot {
         if k == 1 {
-            return enumerate_cliques(rows, q, all, slots);
+            let shared = cliques::common(rows, s);
+            return cliques::take(rows, q, sets::size(s), s, c, shared, slots, count);
         }
     }
     // at the lowest floor pair rows keep what the reach keeps
@@ -99,16 +102,26 @@ fn enumerate(rows: &[u64], k: usize, q: usize, cuts: Cuts, slots: &mut [u64]) ->
         cuts.extension,
         cuts.second,
         sifted(cuts.pairs),
-        sets::empty(),
-        all,
+        s,
+        c,
         slots,
-        0,
+        count,
     )
+}
+
+// Places every maximal k-plex of at least q members while the slots have room, and counts them all.
+fn enumerate(rows: &[u64], k: usize, q: usize, cuts: Cuts, slots: &mut [u64]) -> usize
+    requires { ⌜ Accepted (masks (now rows)) (request k q) ⌝ }
+    ensures { λ r. ⌜ Adds (2 ^ length (masks (now (rows .entry)))) (listed (masks (now (rows .entry))) (request k q))
+        (masks (now (slots .entry))) 0 (masks (now (slots .exit))) r ⌝ }
+{
+    let all = candidates(rows, k, q, cuts.core);
+    enumerate_from(rows, k, q, cuts, all, sets::empty(), all, slots, 0)
 }
 
 // The list with the cuts that are switched on. The promise is that of `list`, whatever the setting.
 pub fn list_with(rows: &[u64], request: Request, cuts: Cuts, slots: &mut [u64]) -> ListFound
-    ensures { λ r. ⌜ Lists (masks (now (rows .entry))) (request .slack) (request .floor) (masks (now (slots .entry))) (masks (now (slots .exit))) r ⌝ }
+    ensures { λ r. ⌜ Lists (masks (now (rows .entry))) (asked request) (masks (now (slots .entry))) (masks (now (slots .exit))) r ⌝ }
 {
     let checked = judging::check::check_request(rows, request);
     if let Checked::Failed(f) = checked {
@@ -128,7 +141,7 @@ pub fn list_with(rows: &[u64], request: Request, cuts: Cuts, slots: &mut [u64]) 
 // Refusals: 1, 2, 3, 4, 5, which leave the slots, and 6 with the exact m where there are fewer slots than m, which makes all slots 0.
 // Cost: exponential in the worst case; it grows with the list where the floor is low.
 pub fn list(rows: &[u64], request: Request, slots: &mut [u64]) -> ListFound
-    ensures { λ r. ⌜ Lists (masks (now (rows .entry))) (request .slack) (request .floor) (masks (now (slots .entry))) (masks (now (slots .exit))) r ⌝ }
+    ensures { λ r. ⌜ Lists (masks (now (rows .entry))) (asked request) (masks (now (slots .entry))) (masks (now (slots .exit))) r ⌝ }
 {
     list_with(
         rows,

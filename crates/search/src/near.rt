@@ -3,6 +3,7 @@ ghost use mathlib.Core.Path.{_≡_};
 ghost use Prim.Native.Nat.{_+_, _*_, _^_, _<_, _≤_};
 ghost use lib.ListN.{length};
 ghost use Rattle.sets.specs.Words.{mask, masks};
+ghost use Rattle.judging.specs.Request.{request};
 ghost use Rattle.judging.specs.Graph.{Valid};
 ghost use Rattle.judging.specs.Setting.{LowRows, Sized};
 ghost use Rattle.search.specs.NearRows.{close, pairRow, reachRow, nearRow, Pairable, Pairing, Lent, Filled};
@@ -58,8 +59,8 @@ fn near_row(rows: &[u64], k: usize, q: usize, core: Set, reach: bool, pairs: boo
 
 // Writes the table row by row.
 pub fn fill(rows: &[u64], k: usize, q: usize, core: Set, reach: bool, pairs: bool, near: &mut [u64])
-    requires { ⌜ Lent (masks (now rows)) (masks (now near)) × Pairing (masks (now rows)) k q (mask core) × (2 * k ≤ q + 1) ⌝ }
-    ensures { λ _. ⌜ Filled (masks (now (rows .entry))) k q (masks (now (near .entry))) (masks (now (near .exit))) ⌝ }
+    requires { ⌜ Lent (masks (now rows)) (masks (now near)) × Pairing (masks (now rows)) (request k q) (mask core) × (2 * k ≤ q + 1) ⌝ }
+    ensures { λ _. ⌜ Filled (masks (now (rows .entry))) (request k q) (masks (now (near .entry))) (masks (now (near .exit))) ⌝ }
 {
     let n = sets::count(rows);
     let mut v = 0;

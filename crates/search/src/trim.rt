@@ -1,9 +1,10 @@
 // Candidates that no listed plex holds beside the set s, to which v came last, are dropped.
 ghost use Rattle.sets.specs.Words.{mask, masks};
+ghost use Rattle.judging.specs.Request.{Request, request};
 ghost use Rattle.search.specs.TrimLaws.{Trimmable, Unblocked, Cheapened, Joinable, Beside};
 ghost use Rattle.search.specs.SiftLaws.{Siftable};
 ghost use Rattle.search.specs.Found.{Near};
-ghost use Prim.Native.Nat.{ℕ, _-_};
+ghost use Prim.Native.Nat.{_-_};
 ghost use mathlib.Core.Path.{_≡_};
 use sets::Set;
 
@@ -43,8 +44,8 @@ fn drop_missing(rows: &[u64], k: usize, s: Set, c: Set, v: usize) -> Set
 // What is left of the candidates c once v, one of them, joins s: those in the near row of v, less both.
 pub fn beside(rows: &[u64], near: &[u64], k: usize, s: Set, c: Set, v: usize) -> Set
     requires { ⌜ Joinable (masks (now rows)) (masks (now near)) (mask s) (mask c) v ⌝ }
-    ensures { λ r. ⌜ ((q : ℕ) → Near (masks (now (rows .entry))) k q (masks (now (near .entry)))
-        → Beside (masks (now (rows .entry))) k q (mask s) (mask c) v (mask r)) ⌝ }
+    ensures { λ r. ⌜ ((ask : Request) → ask .slack ≡ k → Near (masks (now (rows .entry))) ask (masks (now (near .entry)))
+        → Beside (masks (now (rows .entry))) ask (mask s) (mask c) v (mask r)) ⌝ }
 {
     let joined = sets::with(s, v);
     let close = sets::meet(sets::without(c, v), sets::get(near, v));
@@ -63,8 +64,8 @@ pub fn sift(
     v: usize,
     close: Set,
 ) -> Set
-    requires { ⌜ Siftable (masks (now rows)) k q (mask s) (mask c) v (mask close) ⌝ }
-    ensures { λ r. ⌜ Beside (masks (now (rows .entry))) k q (mask s) (mask c) v (mask r) ⌝ }
+    requires { ⌜ Siftable (masks (now rows)) (request k q) (mask s) (mask c) v (mask close) ⌝ }
+    ensures { λ r. ⌜ Beside (masks (now (rows .entry))) (request k q) (mask s) (mask c) v (mask r) ⌝ }
 {
     if few == 0 {
         return close;

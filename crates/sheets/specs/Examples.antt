@@ -2,6 +2,7 @@
 use Prim.Native.Nat.{ℕ}
 use mathlib.Core.Path.{_≡_, refl}
 use mathlib.Core.List.{List, [], _∷_}
+use Rattle.judging.specs.Request.{request}
 use Rattle.judging.specs.Refusal.{refused, answered, firstOf, outside, vertexCause, slackCause, floorCause, badRow, oneWay, lowestRow, rowCause, edgeCause, graphCauses}
 use Rattle.sets.specs.Ranges.{from, range, all, any, first}
 use Rattle.sets.specs.Set.{bit, has}
@@ -23,12 +24,12 @@ ring =
     ∷ 48 ∷ 48 ∷ 48 ∷ 48 ∷ 48 ∷ 48 ∷ 48 ∷ 48 ∷ 48 ∷ 48 ∷ 48 ∷ 48 ∷ 48 ∷ 48 ∷ 48 ∷ 57 ∷ 10
     ∷ []
 
-pub ring-read : reading ring 5 ≡ answered 0 (sheet (0x12 ∷ 0x05 ∷ 0x0A ∷ 0x14 ∷ 0x09 ∷ []) 2 3)
+pub ring-read : reading ring 5 ≡ answered 0 (sheet (0x12 ∷ 0x05 ∷ 0x0A ∷ 0x14 ∷ 0x09 ∷ []) (request 2 3))
 unfolding ring reading headingCauses bodyCauses headingCause rowsCause roomCause sheetOf firstOf outside vertexCause slackCause floorCause badRow oneWay lowestRow rowCause edgeCause graphCauses from range all any first bit has row adjacent between digitValue isDigit numberFrom number isLine field rightLines numbers
 ring-read = refl
 
-pub ring-written : ring ≡ sheetText (0x12 ∷ 0x05 ∷ 0x0A ∷ 0x14 ∷ 0x09 ∷ []) 2 3
-ring-written = read-back ring 5 0 (sheet (0x12 ∷ 0x05 ∷ 0x0A ∷ 0x14 ∷ 0x09 ∷ []) 2 3) ring-read
+pub ring-written : ring ≡ sheetText (0x12 ∷ 0x05 ∷ 0x0A ∷ 0x14 ∷ 0x09 ∷ []) (request 2 3)
+ring-written = read-back ring 5 0 (sheet (0x12 ∷ 0x05 ∷ 0x0A ∷ 0x14 ∷ 0x09 ∷ []) (request 2 3)) ring-read
 
 pub empty-refused : (room : ℕ) → reading [] room ≡ refused 8 1
 unfolding reading headingCauses headingCause firstOf all isLine

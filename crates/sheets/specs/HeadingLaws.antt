@@ -10,6 +10,7 @@ use lib.ListN.{length, getD, take, drop, set, length-append, length-drop, take-a
 use lib.Seq.{drop-cons, take-add, take-take, drop-drop, drop-at, set-at, length-take-le}
 use Rattle.sets.specs.Ranges.{all}
 use Rattle.sets.specs.RangeLaws.{true-holds}
+use Rattle.judging.specs.Request.{Request, request}
 use Rattle.judging.specs.Refusal.{Reply, refused, firstOf, mostVertices, mostSlack, outside, vertexCause, slackCause, floorCause}
 use Rattle.sheets.specs.Digits.{isDigit, digits, number}
 use Rattle.sheets.specs.Lines.{newline, isLine, field}
@@ -66,8 +67,8 @@ module _ {A : Type 0} (t : List ℕ) (r : Reply A) where
   unfolding firstOf headingCauses headingCause vertexCause slackCause floorCause
   heading-passed e n k q = rw (e, n, k, q)
 
-pub heading-same : (t : List ℕ) (n k q : ℕ) → n ≡ vertexField t → k ≡ slackField t → q ≡ floorField t → heading n k q ≡ headingIn t
-heading-same t n k q a b c = ap (λ (x : ℕ). heading x k q) a ∙ ap₂ (λ (x y : ℕ). heading (vertexField t) x y) b c
+pub heading-same : (t : List ℕ) (n k q : ℕ) → n ≡ vertexField t → k ≡ slackField t → q ≡ floorField t → heading n (request k q) ≡ headingIn t
+heading-same t n k q a b c = ap (λ (x : ℕ). heading x (request k q)) a ∙ ap₂ (λ (x y : ℕ). heading (vertexField t) (request x y)) b c
 
 -- a field of line 1 put behind those before it
 pub put-field : (i x : ℕ) (t u done p : List ℕ) → length done ≡ i → i + fieldDigits ≤ length t → u ≡ done ++ drop i t → p ≡ digits (length (take fieldDigits (drop i u))) x
@@ -80,33 +81,36 @@ put-field i x t u done p e l f g =
     (g ∙ ap (λ (v : List ℕ). digits (length (take fieldDigits v)) x) same ∙ ap (λ (m : ℕ). digits m x) (length-take-le fieldDigits (drop i t) (omega (arith, length-drop i t))))
 
 -- line 1 as the code fills it in: three fields, and then the byte at its end
-module _ (n k q : ℕ) (t d₁ d₂ d₃ u₁ u₂ u₃ : List ℕ) (long : headingLength ≤ length t)
+module _ (n : ℕ) (ask : Request) (t d₁ d₂ d₃ u₁ u₂ u₃ : List ℕ) (long : headingLength ≤ length t)
     (e₁ : d₁ ≡ digits (length (take fieldDigits t)) n) (s₁ : u₁ ≡ d₁ ++ drop 2 t)
-    (e₂ : d₂ ≡ digits (length (take fieldDigits (drop 2 u₁))) k) (s₂ : u₂ ≡ take 2 u₁ ++ (d₂ ++ drop 2 (drop 2 u₁)))
-    (e₃ : d₃ ≡ digits (length (take fieldDigits (drop 4 u₂))) q) (s₃ : u₃ ≡ take 4 u₂ ++ (d₃ ++ drop 2 (drop 4 u₂))) where
+    (e₂ : d₂ ≡ digits (length (take fieldDigits (drop 2 u₁))) (ask .slack)) (s₂ : u₂ ≡ take 2 u₁ ++ (d₂ ++ drop 2 (drop 2 u₁)))
+    (e₃ : d₃ ≡ digits (length (take fieldDigits (drop 4 u₂))) (ask .floor)) (s₃ : u₃ ≡ take 4 u₂ ++ (d₃ ++ drop 2 (drop 4 u₂))) where
   one : u₁ ≡ digits 2 n ++ drop 2 t
   one = s₁ ∙ put-field 0 n t t [] d₁ refl (omega arith) refl e₁
 
-  two : u₂ ≡ digits 2 n ++ digits 2 k ++ drop 4 t
-  two = s₂ ∙ put-field 2 k t u₁ (digits 2 n) d₂ (length-digits 2 n) (omega arith) one e₂ ∙ ap (λ (v : List ℕ). digits 2 n ++ digits 2 k ++ v) (drop-drop 2 2 t)
+  two : u₂ ≡ digits 2 n ++ digits 2 (ask .slack) ++ drop 4 t
+  two =
+      s₂ ∙ put-field 2 (ask .slack) t u₁ (digits 2 n) d₂ (length-digits 2 n) (omega arith) one e₂
+      ∙ ap (λ (v : List ℕ). digits 2 n ++ digits 2 (ask .slack) ++ v) (drop-drop 2 2 t)
 
-  three : u₃ ≡ digits 2 n ++ digits 2 k ++ digits 2 q ++ drop 6 t
+  three : u₃ ≡ digits 2 n ++ digits 2 (ask .slack) ++ digits 2 (ask .floor) ++ drop 6 t
   three =
-      s₃ ∙ put-field 4 q t u₂ (digits 2 n ++ digits 2 k) d₃ (omega (arith, length-append (digits 2 n) (digits 2 k), length-digits 2 n, length-digits 2 k)) (omega arith) two e₃
-      ∙ ap (λ (v : List ℕ). digits 2 n ++ digits 2 k ++ digits 2 q ++ v) (drop-drop 2 4 t)
+      s₃ ∙ put-field 4 (ask .floor) t u₂ (digits 2 n ++ digits 2 (ask .slack)) d₃
+      (omega (arith, length-append (digits 2 n) (digits 2 (ask .slack)), length-digits 2 n, length-digits 2 (ask .slack))) (omega arith) two e₃
+      ∙ ap (λ (v : List ℕ). digits 2 n ++ digits 2 (ask .slack) ++ digits 2 (ask .floor) ++ v) (drop-drop 2 4 t)
 
-  pub heading-filled : set u₃ 6 newline ≡ headingText n k q ++ drop headingLength t
+  pub heading-filled : set u₃ 6 newline ≡ headingText n ask ++ drop headingLength t
   unfolding headingText
   heading-filled =
-      let fields = digits 2 n ++ (digits 2 k ++ digits 2 q) in
+      let fields = digits 2 n ++ (digits 2 (ask .slack) ++ digits 2 (ask .floor)) in
       ap (λ (v : List ℕ). set v 6 newline)
-      (three ∙ ap₂ _++_ (append-assoc (digits 2 n) (digits 2 k) (digits 2 q)) (drop-cons t 6 0 (omega arith)))
-      ∙ set-at fields (getD t 6 0) (drop 7 t) newline 6 (heading-digits-length n k q [])
+      (three ∙ ap₂ _++_ (append-assoc (digits 2 n) (digits 2 (ask .slack)) (digits 2 (ask .floor))) (drop-cons t 6 0 (omega arith)))
+      ∙ set-at fields (getD t 6 0) (drop 7 t) newline 6 (heading-digits-length n ask [])
       ∙ sym (line-first fields (drop 7 t))
 
-pub length-heading : (n k q : ℕ) → length (headingText n k q) ≡ headingLength
+pub length-heading : (n : ℕ) (ask : Request) → length (headingText n ask) ≡ headingLength
 unfolding headingText
-length-heading n k q = length-line (digits 2 n ++ (digits 2 k ++ digits 2 q)) ∙ ap suc (heading-digits-length n k q [])
+length-heading n ask = length-line (digits 2 n ++ (digits 2 (ask .slack) ++ digits 2 (ask .floor))) ∙ ap suc (heading-digits-length n ask [])
 
-pub heading-keeps-length : (n k q : ℕ) (t : List ℕ) → headingLength ≤ length t → length (headingText n k q ++ drop headingLength t) ≡ length t
-heading-keeps-length n k q t l = omega (arith, length-append (headingText n k q) (drop headingLength t), length-heading n k q, length-drop headingLength t)
+pub heading-keeps-length : (n : ℕ) (ask : Request) (t : List ℕ) → headingLength ≤ length t → length (headingText n ask ++ drop headingLength t) ≡ length t
+heading-keeps-length n ask t l = omega (arith, length-append (headingText n ask) (drop headingLength t), length-heading n ask, length-drop headingLength t)

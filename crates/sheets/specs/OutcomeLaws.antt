@@ -6,6 +6,7 @@ use mathlib.Core.Path.{_≡_, sym, ap, _∙_, subst}
 use mathlib.Core.List.{List, [], _∷_, _++_}
 use lib.ListN.{length, take, drop}
 use lib.Seq.{take-at}
+use Rattle.judging.specs.Request.{Request}
 use Rattle.judging.specs.Refusal.{Reply, answered, firstOf, vertexCause, slackCause, floorCause, graphCauses}
 use Rattle.judging.specs.Calls.{passed, requestCheck}
 use Rattle.judging.specs.RefusalLaws.{first-append, first-passed, answered-value, passed-tail, passed-front, passed-back}
@@ -24,10 +25,10 @@ module _ (t : List ℕ) (room : ℕ) {v : ℕ} {s : Sheet} (e : reading t room �
   read-value = answered-value (headingCauses t ++ (bodyCauses (vertexField t) (body t) ++ roomCause room (vertexField t) ∷ [])) 0 (sheetOf t) e
 
   -- 1, 2 and 3 of line 1, 4 and 5 of the rows
-  pub read-accepted : firstOf (requestCheck (s .rows) (s .slack) (s .floor)) passed ≡ passed
+  pub read-accepted : firstOf (requestCheck (s .rows) (s .request)) passed ≡ passed
   unfolding requestCheck headingCauses bodyCauses sheetOf
   read-accepted =
-      subst (λ (x : Sheet). firstOf (requestCheck (x .rows) (x .slack) (x .floor)) passed ≡ passed) (sym (read-answer t room e))
+      subst (λ (x : Sheet). firstOf (requestCheck (x .rows) (x .request)) passed ≡ passed) (sym (read-answer t room e))
       (subst (λ (n : ℕ). firstOf (vertexCause n ∷ slackCause k ∷ floorCause k q ∷ graphCauses g) passed ≡ passed) (sym (length-numbers rowDigits n (body t)))
       (first-append (vertexCause n ∷ slackCause k ∷ floorCause k q ∷ []) (graphCauses g) passed
       ∙ first-passed (vertexCause n ∷ slackCause k ∷ floorCause k q ∷ []) (firstOf (graphCauses g) passed) fields
@@ -57,34 +58,34 @@ module _ (t : List ℕ) (room : ℕ) {v : ℕ} {s : Sheet} (e : reading t room �
           (passed-back (headingCauses t) (bodyCauses n (body t) ++ roomCause room n ∷ []) (read-passed t room e)))
 
   long : length t ≡ sheetLength (length (s .rows))
-  long = ap length (read-back t room v s e) ∙ length-sheet (s .rows) (s .slack) (s .floor)
+  long = ap length (read-back t room v s e) ∙ length-sheet (s .rows) (s .request)
 
-  pub read-then-write : (bytes : ℕ) → length t ≤ bytes → writing (s .rows) (s .slack) (s .floor) bytes ≡ answered (length t) tt
+  pub read-then-write : (bytes : ℕ) → length t ≤ bytes → writing (s .rows) (s .request) bytes ≡ answered (length t) tt
   read-then-write bytes l =
-      accepted-writes (s .rows) (s .slack) (s .floor) bytes read-accepted (omega (arith, long)) ∙ ap (λ (n : ℕ). answered n tt) (sym long)
+      accepted-writes (s .rows) (s .request) bytes read-accepted (omega (arith, long)) ∙ ap (λ (n : ℕ). answered n tt) (sym long)
 
   -- the bytes written are the text
   pub read-then-text : (before : List ℕ) → length t ≤ length before
-      → textAfter (writing (s .rows) (s .slack) (s .floor) (length before)) (sheetText (s .rows) (s .slack) (s .floor)) before ≡ over t before
+      → textAfter (writing (s .rows) (s .request) (length before)) (sheetText (s .rows) (s .request)) before ≡ over t before
   read-then-text before l =
-      ap (λ (x : Reply (Unit {0})). textAfter x (sheetText (s .rows) (s .slack) (s .floor)) before) (read-then-write (length before) l)
+      ap (λ (x : Reply (Unit {0})). textAfter x (sheetText (s .rows) (s .request)) before) (read-then-write (length before) l)
       ∙ ap (λ (x : List ℕ). over x before) (sym (read-back t room v s e))
 
 -- ---- write, then read
 
-module _ (g : List ℕ) (k q : ℕ) (before : List ℕ) {m : ℕ} (e : writing g k q (length before) ≡ answered m tt) where
+module _ (g : List ℕ) (ask : Request) (before : List ℕ) {m : ℕ} (e : writing g ask (length before) ≡ answered m tt) where
   pub write-value : m ≡ sheetLength (length g)
   unfolding writing
   write-value =
-      answered-value (requestCheck g k q ++ roomCause (length before) (sheetLength (length g)) ∷ []) (sheetLength (length g)) tt e
+      answered-value (requestCheck g ask ++ roomCause (length before) (sheetLength (length g)) ∷ []) (sheetLength (length g)) tt e
 
-  pub written-front : take m (textAfter (writing g k q (length before)) (sheetText g k q) before) ≡ sheetText g k q
+  pub written-front : take m (textAfter (writing g ask (length before)) (sheetText g ask) before) ≡ sheetText g ask
   unfolding over
   written-front =
-      ap (λ (x : Reply (Unit {0})). take m (textAfter x (sheetText g k q) before)) e
-      ∙ take-at (sheetText g k q) (drop (length (sheetText g k q)) before) m (length-sheet g k q ∙ sym write-value)
+      ap (λ (x : Reply (Unit {0})). take m (textAfter x (sheetText g ask) before)) e
+      ∙ take-at (sheetText g ask) (drop (length (sheetText g ask)) before) m (length-sheet g ask ∙ sym write-value)
 
   -- the bytes written are read as what was written
   pub write-then-read : (rows : ℕ) → length g ≤ rows
-      → reading (take m (textAfter (writing g k q (length before)) (sheetText g k q) before)) rows ≡ answered 0 (sheet g k q)
-  write-then-read rows l = ap (λ (t : List ℕ). reading t rows) written-front ∙ written-back g k q (length before) rows m e l
+      → reading (take m (textAfter (writing g ask (length before)) (sheetText g ask) before)) rows ≡ answered 0 (sheet g ask)
+  write-then-read rows l = ap (λ (t : List ℕ). reading t rows) written-front ∙ written-back g ask (length before) rows m e l

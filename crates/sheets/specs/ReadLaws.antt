@@ -9,6 +9,7 @@ use lib.ListN.{length, take, drop}
 use Rattle.sets.specs.RangeLaws.{true-holds}
 use Rattle.sets.specs.Words.{width, masks}
 use Rattle.sets.specs.Words.Operations.{count-masks, drop-masks, append-masks}
+use Rattle.judging.specs.Request.{asked}
 use Rattle.judging.specs.Refusal.{Reply, answered, firstOf, mostVertices, vertexCause, slackCause, floorCause}
 use Rattle.judging.specs.Calls.{passed, checkedReply, numberOf, valueOf, refusal}
 use Rattle.judging.specs.RefusalLaws.{first-append, first-holds, first-skips, first-refused, first-passed, answered-passed, refused-passed, passed-head, passed-tail, within-range}
@@ -30,23 +31,23 @@ use Rattle.sheets.specs.BodyLaws.{taken-rows}
 pub read-refused : (t ms : List ℕ) (f : Refusal) → reading t (length ms) ≡ refusal f → ReadSheet t ms ms (Refused f)
 read-refused t ms f e = record { reply = sym (ap headingOf e); rows = sym (ap (λ (x : Reply Sheet). rowsAfter x ms) e) }
 
-pub read-answered : (t ms after : List ℕ) (n : ℕ) (request : Request) (g : List ℕ) → reading t (length ms) ≡ answered 0 (sheet g (request .slack) (request .floor))
+pub read-answered : (t ms after : List ℕ) (n : ℕ) (request : Request) (g : List ℕ) → reading t (length ms) ≡ answered 0 (sheet g (asked request))
     → length g ≡ n → after ≡ g ++ drop n ms → ReadSheet t ms after (Read n request)
 unfolding over
 read-answered t ms after n request g e l p =
     record {
-      reply = ap (λ (m : ℕ). answered 0 (heading m (request .slack) (request .floor))) (sym l) ∙ sym (ap headingOf e);
+      reply = ap (λ (m : ℕ). answered 0 (heading m (asked request))) (sym l) ∙ sym (ap headingOf e);
       rows = p ∙ ap (λ (m : ℕ). g ++ drop m ms) (sym l) ∙ sym (ap (λ (x : Reply Sheet). rowsAfter x ms) e);
     }
 
 -- what the reading of line 1 gave
 module _ (t : List ℕ) (r : SheetRead) (e : readReply r ≡ firstOf (headingCauses t) (answered 0 (headingIn t))) where
-  pub heading-read : (n : ℕ) (request : Request) → r ≡ Read n request → HeadingRead n (request .slack) (request .floor) t
+  pub heading-read : (n : ℕ) (request : Request) → r ≡ Read n request → HeadingRead n (asked request) t
   heading-read n request p =
-      let found = heading n (request .slack) (request .floor) in
-      let q : firstOf (headingCauses t) (answered 0 (headingIn t)) ≡ answered 0 (heading n (request .slack) (request .floor)) = sym e ∙ ap readReply p in
+      let found = heading n (asked request) in
+      let q : firstOf (headingCauses t) (answered 0 (headingIn t)) ≡ answered 0 (heading n (asked request)) = sym e ∙ ap readReply p in
       let passes = answered-passed (headingCauses t) 0 0 (headingIn t) found q in
-      let same : answered 0 (headingIn t) ≡ answered 0 (heading n (request .slack) (request .floor)) = sym (first-passed (headingCauses t) (answered 0 (headingIn t)) passes) ∙ q in
+      let same : answered 0 (headingIn t) ≡ answered 0 (heading n (asked request)) = sym (first-passed (headingCauses t) (answered 0 (headingIn t)) passes) ∙ q in
       record { passes = passes; says = cc }
 
   pub heading-left : (ms : List ℕ) (f : Refusal) → r ≡ Refused f → ReadSheet t ms ms (Refused f)
@@ -59,7 +60,7 @@ module _ (t : List ℕ) (r : SheetRead) (e : readReply r ≡ firstOf (headingCau
       (refused-passed (headingCauses t) 0 (numberOf f) (valueOf f) (headingIn t) (sym e ∙ ap readReply p)))
 
 -- once line 1 has passed
-module _ (n : ℕ) (request : Request) (t : List ℕ) (h : HeadingRead n (request .slack) (request .floor) t) where
+module _ (n : ℕ) (request : Request) (t : List ℕ) (h : HeadingRead n (asked request) t) where
   pub text-long : headingLength ≤ length t
   unfolding headingCauses headingCause
   text-long =
@@ -79,7 +80,7 @@ module _ (n : ℕ) (request : Request) (t : List ℕ) (h : HeadingRead n (reques
 
   -- what the read then stores and answers
   abbrev found : Reply Sheet
-  found = answered 0 (sheet (numbers rowDigits n (body t)) (request .slack) (request .floor))
+  found = answered 0 (sheet (numbers rowDigits n (body t)) (asked request))
 
   reading-rest : (room : ℕ) → reading t room ≡ firstOf (bodyCauses n (body t)) (firstOf (roomCause room n ∷ []) found)
   unfolding reading sheetOf
@@ -90,7 +91,7 @@ module _ (n : ℕ) (request : Request) (t : List ℕ) (h : HeadingRead n (reques
       ∙ first-append (bodyCauses (vertexField t) (body t)) (roomCause room (vertexField t) ∷ []) (answered 0 (sheetOf t))
       ∙ ap
       (λ (x : Heading).
-      firstOf (bodyCauses (x .vertices) (body t)) (firstOf (roomCause room (x .vertices) ∷ []) (answered 0 (sheet (numbers rowDigits (x .vertices) (body t)) (x .slack) (x .floor)))))
+      firstOf (bodyCauses (x .vertices) (body t)) (firstOf (roomCause room (x .vertices) ∷ []) (answered 0 (sheet (numbers rowDigits (x .vertices) (body t)) (x .request)))))
       (h .says)
 
   module _ (ws : List ℕ) (r : Checked) (e : checkedReply r ≡ firstOf (bodyCauses n (take (length t - headingLength) (drop headingLength t))) passed) where

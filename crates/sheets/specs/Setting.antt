@@ -2,7 +2,7 @@
 --
 --   Readable bs          the bytes are digits, and no more than a word has
 --   HeadingField at t    line 1 of t is right, and a field of it is at position at
---   HeadingRead n k q t  line 1 of t passes and says n, k and q
+--   HeadingRead n ask t  line 1 of t passes and says n and the request ask
 --   RowLines n t         the n lines that t begins with are right, and n is a number of vertices
 --   RowRoom n t          n rows have room in t, and n is a number of vertices
 use Prim.Native.Nat.{ℕ, _+_, _*_, _≤_}
@@ -13,6 +13,7 @@ use lib.Dec.{T}
 use lib.ListN.{length}
 use Rattle.sets.specs.Ranges.{all}
 use Rattle.sets.specs.Words.{width}
+use Rattle.judging.specs.Request.{Request}
 use Rattle.judging.specs.Refusal.{firstOf}
 use Rattle.judging.specs.Calls.{passed}
 use Rattle.sheets.specs.Digits.{wordDigits, isDigit}
@@ -28,9 +29,9 @@ pub record HeadingField (at : ℕ) (t : List ℕ) : Type 0 where
   pub inside : at + fieldDigits ≤ headingDigits
   pub right : isLine headingDigits t ≡ true
 
-pub record HeadingRead (n k q : ℕ) (t : List ℕ) : Type 0 where
+pub record HeadingRead (n : ℕ) (ask : Request) (t : List ℕ) : Type 0 where
   pub passes : firstOf (headingCauses t) passed ≡ passed
-  pub says : headingIn t ≡ heading n k q
+  pub says : headingIn t ≡ heading n ask
 
 pub record RowLines (n : ℕ) (t : List ℕ) : Type 0 where
   pub most : n ≤ width

@@ -1,12 +1,13 @@
 -- Sheets (document 01): the text of a graph with a request, and the reading of any bytes as one.
 --
---   headingText n k q    line 1
---   sheetText g k q      the sheet of the graph g with the slack k and the floor q
+--   headingText n ask    line 1
+--   sheetText g ask      the sheet of the graph g with the slack and the floor of the request ask
 --   sheetLength n        the length of a sheet of n vertices
 --   vertexField t, ..    what line 1 of any text t says; body t is what stands below it
---   Sheet                what a sheet says: the rows of the graph, the slack and the floor
+--   requestIn t          what line 1 of the text t asks
+--   Sheet                what a sheet says: the rows of the graph, and the request
 --   reading t room       what reading the text t into room rows answers, by document 01's order for reading
---   writing g k q room   what writing that sheet into room bytes answers
+--   writing g ask room   what writing that sheet into room bytes answers
 --   rowsAfter, textAfter what the lent rows or the lent text then hold
 use Prim.Native.Nat.{ℕ, _+_, _*_, _/_}
 use mathlib.Core.Bool.{Bool, not, _||_}
@@ -14,6 +15,7 @@ use mathlib.Core.List.{List, [], _∷_, _++_}
 use lib.Dec.{ltb}
 use lib.ListN.{length, drop}
 use Rattle.sets.specs.Words.{width}
+use Rattle.judging.specs.Request.{Request, request}
 use Rattle.judging.specs.Refusal.{Reply, refused, answered, Cause, cause, firstOf, vertexCause, slackCause, floorCause, graphCauses}
 use Rattle.judging.specs.Calls.{requestCheck}
 use Rattle.sheets.specs.Digits.{digits}
@@ -49,12 +51,12 @@ rowLength = rowDigits + 1
 abbrev pub sheetLength : ℕ → ℕ
 sheetLength n = headingLength + n * rowLength
 
-unfoldable pub headingText : ℕ → ℕ → ℕ → List ℕ
-headingText n k q = line (digits fieldDigits n ++ (digits fieldDigits k ++ digits fieldDigits q))
+unfoldable pub headingText : ℕ → Request → List ℕ
+headingText n ask = line (digits fieldDigits n ++ (digits fieldDigits (ask .slack) ++ digits fieldDigits (ask .floor)))
 
 -- line 1, and then row after row, one row a line
-unfoldable pub sheetText : List ℕ → ℕ → ℕ → List ℕ
-sheetText g k q = headingText (length g) k q ++ lines rowDigits g
+unfoldable pub sheetText : List ℕ → Request → List ℕ
+sheetText g ask = headingText (length g) ask ++ lines rowDigits g
 
 -- ---- what any text says
 
@@ -67,20 +69,22 @@ slackField t = field slackAt fieldDigits t
 abbrev pub floorField : List ℕ → ℕ
 floorField t = field floorAt fieldDigits t
 
+abbrev pub requestIn : List ℕ → Request
+requestIn t = request (slackField t) (floorField t)
+
 -- what stands below line 1
 abbrev pub body : List ℕ → List ℕ
 body t = drop headingLength t
 
 pub record Sheet : Type 0 where
   pub rows : List ℕ
-  pub slack : ℕ
-  pub floor : ℕ
+  pub request : Request
 
-abbrev pub sheet : List ℕ → ℕ → ℕ → Sheet
-sheet g k q = record { rows = g; slack = k; floor = q }
+abbrev pub sheet : List ℕ → Request → Sheet
+sheet g ask = record { rows = g; request = ask }
 
 unfoldable pub sheetOf : List ℕ → Sheet
-sheetOf t = sheet (numbers rowDigits (vertexField t) (body t)) (slackField t) (floorField t)
+sheetOf t = sheet (numbers rowDigits (vertexField t) (body t)) (requestIn t)
 
 -- ---- the causes that sheets alone have
 
@@ -113,10 +117,10 @@ reading t room =
 
 -- ---- writing: 1, 2, 3, 4, 5, 9
 
-unfoldable pub writing : List ℕ → ℕ → ℕ → ℕ → Reply (Unit {0})
-writing g k q room =
+unfoldable pub writing : List ℕ → Request → ℕ → Reply (Unit {0})
+writing g ask room =
     let needed = sheetLength (length g) in
-    firstOf (requestCheck g k q ++ roomCause room needed ∷ []) (answered needed tt)
+    firstOf (requestCheck g ask ++ roomCause room needed ∷ []) (answered needed tt)
 
 -- ---- the lent buffers: a refusal leaves them, and what lies beyond a success is kept
 

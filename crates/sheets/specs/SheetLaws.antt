@@ -14,12 +14,15 @@ use Rattle.sets.specs.Ranges.{all}
 use Rattle.sets.specs.RangeLaws.{true-holds}
 use Rattle.sets.specs.Graph.{row}
 use Rattle.sets.specs.Words.{width}
+use Rattle.judging.specs.Request.{Request}
 use Rattle.judging.specs.Refusal.{answered, Cause, firstOf, vertexCause, slackCause, floorCause, graphCauses}
 use Rattle.judging.specs.Calls.{passed, requestCheck}
 use Rattle.judging.specs.RefusalLaws.{first-append, first-skips, first-passed, answered-passed, answered-found, passed-head, passed-front, passed-back, graph-sized, graph-checked, slack-accepted, slack-graph, request-slack, floor-accepted}
 use Rattle.sheets.specs.Digits.{isDigit, digits, number}
 use Rattle.sheets.specs.Lines.{newline, line, lines, isLine, field, rightLines, numbers}
-use Rattle.sheets.specs.Sheet.{headingDigits, rowDigits, rowLength, sheetLength, headingText, sheetText, vertexField, slackField, floorField, body, Sheet, sheet, sheetOf, headingCause, rowsCause, roomCause, headingCauses, bodyCauses, reading, writing}
+use Rattle.sheets.specs.Sheet.{headingDigits, rowDigits, rowLength, sheetLength, headingText, sheetText}
+use Rattle.sheets.specs.Sheet.{vertexField, slackField, floorField, requestIn, body, Sheet, sheet, sheetOf}
+use Rattle.sheets.specs.Sheet.{headingCause, rowsCause, roomCause, headingCauses, bodyCauses, reading, writing}
 use Rattle.sheets.specs.DigitLaws.{length-digits, all-digits, all-append, all-front, all-back, number-digits, digits-number}
 use Rattle.sheets.specs.LineLaws.{line-first, line-drop, line-right, right-digits, right-fits, right-line, right-lines, length-lines, lines-right, lines-numbers, length-numbers, right-most}
 
@@ -37,7 +40,7 @@ six : (t : List ℕ) → take 6 t ≡ take 2 (drop 0 t) ++ (take 2 (drop 2 t) ++
 six t =
     take-add 2 4 t ∙ ap (λ (l : List ℕ). take 2 t ++ l) (take-add 2 2 (drop 2 t) ∙ ap (λ (l : List ℕ). take 2 (drop 2 t) ++ take 2 l) (drop-drop 2 2 t))
 
-pub heading-back : (t : List ℕ) → isLine headingDigits t ≡ true → t ≡ headingText (vertexField t) (slackField t) (floorField t) ++ body t
+pub heading-back : (t : List ℕ) → isLine headingDigits t ≡ true → t ≡ headingText (vertexField t) (requestIn t) ++ body t
 unfolding headingText
 heading-back t e =
     let r = true-holds (isLine 6 t) e in
@@ -91,28 +94,28 @@ module _ (t : List ℕ) (room : ℕ) {v : ℕ} {s : Sheet} (e : reading t room �
   unfolding reading
   read-answer = answered-found (headingCauses t ++ (bodyCauses (vertexField t) (body t) ++ roomCause room (vertexField t) ∷ [])) 0 (sheetOf t) e
 
-pub read-back : (t : List ℕ) (room v : ℕ) (s : Sheet) → reading t room ≡ answered v s → t ≡ sheetText (s .rows) (s .slack) (s .floor)
+pub read-back : (t : List ℕ) (room v : ℕ) (s : Sheet) → reading t room ≡ answered v s → t ≡ sheetText (s .rows) (s .request)
 unfolding headingCauses bodyCauses headingCause sheetText sheetOf
 read-back t room v s e =
     let after = bodyCauses (vertexField t) (body t) ++ roomCause room (vertexField t) ∷ [] in
     let p = read-passed t room e in
     heading-back t (not-false (isLine headingDigits t) (passed-head (headingCause t) (after-heading t room) p))
-    ∙ ap (λ (l : List ℕ). headingText (vertexField t) (slackField t) (floorField t) ++ l)
+    ∙ ap (λ (l : List ℕ). headingText (vertexField t) (requestIn t) ++ l)
     (rows-back (vertexField t) (body t) (passed-head (rowsCause (vertexField t) (body t)) (graphCauses (numbers rowDigits (vertexField t) (body t)) ++ roomCause room (vertexField t) ∷ [])
     (passed-back (headingCauses t) after p)))
-    ∙ ap (λ (n : ℕ). headingText n (slackField t) (floorField t) ++ lines rowDigits (numbers rowDigits (vertexField t) (body t))) (sym (length-numbers rowDigits (vertexField t) (body t)))
-    ∙ ap (λ (x : Sheet). sheetText (x .rows) (x .slack) (x .floor)) (sym (read-answer t room e))
+    ∙ ap (λ (n : ℕ). headingText n (requestIn t) ++ lines rowDigits (numbers rowDigits (vertexField t) (body t))) (sym (length-numbers rowDigits (vertexField t) (body t)))
+    ∙ ap (λ (x : Sheet). sheetText (x .rows) (x .request)) (sym (read-answer t room e))
 
 -- ---- what was written reads back as it was
 
-module _ (n k q : ℕ) (t : List ℕ) where
+module _ (n : ℕ) (ask : Request) (t : List ℕ) where
   -- line 1 and what follows, field after field
-  heading-parts : headingText n k q ++ t ≡ digits 2 n ++ (digits 2 k ++ (digits 2 q ++ newline ∷ t))
+  heading-parts : headingText n ask ++ t ≡ digits 2 n ++ (digits 2 (ask .slack) ++ (digits 2 (ask .floor) ++ newline ∷ t))
   unfolding headingText
   heading-parts =
-      line-first (digits 2 n ++ (digits 2 k ++ digits 2 q)) t
-      ∙ append-assoc (digits 2 n) (digits 2 k ++ digits 2 q) (newline ∷ t)
-      ∙ ap (λ (l : List ℕ). digits 2 n ++ l) (append-assoc (digits 2 k) (digits 2 q) (newline ∷ t))
+      line-first (digits 2 n ++ (digits 2 (ask .slack) ++ digits 2 (ask .floor))) t
+      ∙ append-assoc (digits 2 n) (digits 2 (ask .slack) ++ digits 2 (ask .floor)) (newline ∷ t)
+      ∙ ap (λ (l : List ℕ). digits 2 n ++ l) (append-assoc (digits 2 (ask .slack)) (digits 2 (ask .floor)) (newline ∷ t))
 
   after-two : (x : ℕ) (l : List ℕ) → drop 2 (digits 2 x ++ l) ≡ l
   after-two x l = drop-at (digits 2 x) l 2 (length-digits 2 x)
@@ -120,77 +123,90 @@ module _ (n k q : ℕ) (t : List ℕ) where
   first-two : (x : ℕ) (l : List ℕ) → x < 256 → number (take 2 (digits 2 x ++ l)) ≡ x
   first-two x l h = ap number (take-at (digits 2 x) l 2 (length-digits 2 x)) ∙ number-digits 2 x h
 
-  pub vertex-field : n < 256 → vertexField (headingText n k q ++ t) ≡ n
+  pub vertex-field : n < 256 → vertexField (headingText n ask ++ t) ≡ n
   unfolding field
-  vertex-field h = ap (λ (l : List ℕ). number (take 2 l)) heading-parts ∙ first-two n (digits 2 k ++ (digits 2 q ++ newline ∷ t)) h
+  vertex-field h = ap (λ (l : List ℕ). number (take 2 l)) heading-parts ∙ first-two n (digits 2 (ask .slack) ++ (digits 2 (ask .floor) ++ newline ∷ t)) h
 
-  pub slack-field : k < 256 → slackField (headingText n k q ++ t) ≡ k
+  pub slack-field : ask .slack < 256 → slackField (headingText n ask ++ t) ≡ ask .slack
   unfolding field
   slack-field h =
-      ap (λ (l : List ℕ). number (take 2 l)) (ap (drop 2) heading-parts ∙ after-two n (digits 2 k ++ (digits 2 q ++ newline ∷ t)))
-      ∙ first-two k (digits 2 q ++ newline ∷ t) h
+      ap (λ (l : List ℕ). number (take 2 l)) (ap (drop 2) heading-parts ∙ after-two n (digits 2 (ask .slack) ++ (digits 2 (ask .floor) ++ newline ∷ t)))
+      ∙ first-two (ask .slack) (digits 2 (ask .floor) ++ newline ∷ t) h
 
-  pub floor-field : q < 256 → floorField (headingText n k q ++ t) ≡ q
+  pub floor-field : ask .floor < 256 → floorField (headingText n ask ++ t) ≡ ask .floor
   unfolding field
   floor-field h =
       ap (λ (l : List ℕ). number (take 2 l))
-      (sym (drop-drop 2 2 (headingText n k q ++ t))
+      (sym (drop-drop 2 2 (headingText n ask ++ t))
       ∙ ap (λ (l : List ℕ). drop 2 (drop 2 l)) heading-parts
-      ∙ ap (drop 2) (after-two n (digits 2 k ++ (digits 2 q ++ newline ∷ t)))
-      ∙ after-two k (digits 2 q ++ newline ∷ t))
-      ∙ first-two q (newline ∷ t) h
+      ∙ ap (drop 2) (after-two n (digits 2 (ask .slack) ++ (digits 2 (ask .floor) ++ newline ∷ t)))
+      ∙ after-two (ask .slack) (digits 2 (ask .floor) ++ newline ∷ t))
+      ∙ first-two (ask .floor) (newline ∷ t) h
 
-  heading-digits : T (all isDigit (digits 2 n ++ (digits 2 k ++ digits 2 q)))
+  heading-digits : T (all isDigit (digits 2 n ++ (digits 2 (ask .slack) ++ digits 2 (ask .floor))))
   heading-digits =
-      all-append isDigit (digits 2 n) (digits 2 k ++ digits 2 q) (all-digits 2 n) (all-append isDigit (digits 2 k) (digits 2 q) (all-digits 2 k) (all-digits 2 q))
+      all-append isDigit (digits 2 n) (digits 2 (ask .slack) ++ digits 2 (ask .floor)) (all-digits 2 n)
+      (all-append isDigit (digits 2 (ask .slack)) (digits 2 (ask .floor)) (all-digits 2 (ask .slack)) (all-digits 2 (ask .floor)))
 
-  pub heading-digits-length : length (digits 2 n ++ (digits 2 k ++ digits 2 q)) ≡ 6
+  pub heading-digits-length : length (digits 2 n ++ (digits 2 (ask .slack) ++ digits 2 (ask .floor))) ≡ 6
   heading-digits-length =
-      omega (arith, length-append (digits 2 n) (digits 2 k ++ digits 2 q), length-append (digits 2 k) (digits 2 q), length-digits 2 n, length-digits 2 k, length-digits 2 q)
+      omega (
+        arith,
+        length-append (digits 2 n) (digits 2 (ask .slack) ++ digits 2 (ask .floor)),
+        length-append (digits 2 (ask .slack)) (digits 2 (ask .floor)),
+        length-digits 2 n,
+        length-digits 2 (ask .slack),
+        length-digits 2 (ask .floor),
+      )
 
-  pub heading-right : isLine headingDigits (headingText n k q ++ t) ≡ true
+  pub heading-right : isLine headingDigits (headingText n ask ++ t) ≡ true
   unfolding headingText
-  heading-right = line-right 6 (digits 2 n ++ (digits 2 k ++ digits 2 q)) t heading-digits-length heading-digits
+  heading-right = line-right 6 (digits 2 n ++ (digits 2 (ask .slack) ++ digits 2 (ask .floor))) t heading-digits-length heading-digits
 
-  pub heading-body : body (headingText n k q ++ t) ≡ t
+  pub heading-body : body (headingText n ask ++ t) ≡ t
   unfolding headingText
-  heading-body = line-drop 6 (digits 2 n ++ (digits 2 k ++ digits 2 q)) t heading-digits-length
+  heading-body = line-drop 6 (digits 2 n ++ (digits 2 (ask .slack) ++ digits 2 (ask .floor))) t heading-digits-length
 
 -- the answer to a text whose lines are right, by what it says
-reading-by : (t : List ℕ) (room n k q : ℕ) (g : List ℕ) → isLine headingDigits t ≡ true → vertexField t ≡ n → slackField t ≡ k → floorField t ≡ q
-    → rowsCause n (body t) .holds ≡ false → numbers rowDigits n (body t) ≡ g
-    → reading t room ≡ firstOf (vertexCause n ∷ slackCause k ∷ floorCause k q ∷ graphCauses g ++ roomCause room n ∷ []) (answered 0 (sheet g k q))
+reading-by : (t : List ℕ) (room n : ℕ) (ask : Request) (g : List ℕ) → isLine headingDigits t ≡ true → vertexField t ≡ n
+    → slackField t ≡ ask .slack → floorField t ≡ ask .floor → rowsCause n (body t) .holds ≡ false → numbers rowDigits n (body t) ≡ g
+    → reading t room
+    ≡ firstOf (vertexCause n ∷ slackCause (ask .slack) ∷ floorCause (ask .slack) (ask .floor) ∷ graphCauses g ++ roomCause room n ∷ [])
+    (answered 0 (sheet g ask))
 unfolding reading headingCauses bodyCauses headingCause sheetOf firstOf graphCauses
-reading-by t room n k q g e en ek eq er eg = rw (e, en, ek, eq, er, eg)
+reading-by t room n ask g e en ek eq er eg = rw (e, en, ek, eq, er, eg)
 
-pub reads-written : (g : List ℕ) (k q room : ℕ) → length g < 256 → k < 256 → q < 256 → ((a : ℕ) → a < length g → row g a < 16 ^ rowDigits)
-    → reading (sheetText g k q) room ≡ firstOf (requestCheck g k q ++ roomCause room (length g) ∷ []) (answered 0 (sheet g k q))
+pub reads-written : (g : List ℕ) (ask : Request) (room : ℕ) → length g < 256 → ask .slack < 256 → ask .floor < 256
+    → ((a : ℕ) → a < length g → row g a < 16 ^ rowDigits)
+    → reading (sheetText g ask) room ≡ firstOf (requestCheck g ask ++ roomCause room (length g) ∷ []) (answered 0 (sheet g ask))
 unfolding sheetText requestCheck row
-reads-written g k q room hn hk hq low =
+reads-written g ask room hn hk hq low =
     let t = lines rowDigits g in
     let n = length g in
     let whole = sym (append-nil (lines rowDigits g)) in
-    let under = heading-body n k q t in
-    reading-by (headingText n k q ++ t) room n k q g (heading-right n k q t) (vertex-field n k q t hn) (slack-field n k q t hk) (floor-field n k q t hq)
+    let under = heading-body n ask t in
+    reading-by (headingText n ask ++ t) room n ask g (heading-right n ask t) (vertex-field n ask t hn) (slack-field n ask t hk) (floor-field n ask t hq)
     (subst (λ (l : List ℕ). rowsCause n l .holds ≡ false) (sym under)
     (clear-rows n t (ap (rightLines rowDigits n) whole ∙ lines-right rowDigits g []) (omega (arith, length-lines rowDigits g))))
     (ap (numbers rowDigits n) (under ∙ whole) ∙ lines-numbers rowDigits g [] low)
 
-pub accepted-back : (g : List ℕ) (k q room : ℕ) → firstOf (requestCheck g k q) passed ≡ passed → length g ≤ room → reading (sheetText g k q) room ≡ answered 0 (sheet g k q)
+pub accepted-back : (g : List ℕ) (ask : Request) (room : ℕ) → firstOf (requestCheck g ask) passed ≡ passed → length g ≤ room
+    → reading (sheetText g ask) room ≡ answered 0 (sheet g ask)
 unfolding roomCause firstOf
-accepted-back g k q room e l =
-    let checked = slack-graph g k (request-slack g k q e) in
+accepted-back g ask room e l =
+    let checked = slack-graph g (ask .slack) (request-slack g ask e) in
     let n = graph-sized g checked in
-    let slack = slack-accepted g k (request-slack g k q e) in
-    let floor = floor-accepted g k q e in
-    reads-written g k q room (omega (arith, n .most)) (omega arith) (omega arith)
+    let slack = slack-accepted g (ask .slack) (request-slack g ask e) in
+    let floor = floor-accepted g ask e in
+    reads-written g ask room (omega (arith, n .most)) (omega arith) (omega arith)
     (λ a h. lt-of-lt-of-le (graph-checked g checked .low a h) (pow-mono {i = length g} {j = width} (n .most)))
-    ∙ first-append (requestCheck g k q) (roomCause room (length g) ∷ []) (answered 0 (sheet g k q))
-    ∙ first-passed (requestCheck g k q) (firstOf (roomCause room (length g) ∷ []) (answered 0 (sheet g k q))) e
-    ∙ first-skips (roomCause room (length g)) [] (answered 0 (sheet g k q)) (le-ltb room (length g) l)
+    ∙ first-append (requestCheck g ask) (roomCause room (length g) ∷ []) (answered 0 (sheet g ask))
+    ∙ first-passed (requestCheck g ask) (firstOf (roomCause room (length g) ∷ []) (answered 0 (sheet g ask))) e
+    ∙ first-skips (roomCause room (length g)) [] (answered 0 (sheet g ask)) (le-ltb room (length g) l)
 
-pub written-back : (g : List ℕ) (k q bytes rows v : ℕ) → writing g k q bytes ≡ answered v tt → length g ≤ rows → reading (sheetText g k q) rows ≡ answered 0 (sheet g k q)
+pub written-back : (g : List ℕ) (ask : Request) (bytes rows v : ℕ) → writing g ask bytes ≡ answered v tt → length g ≤ rows
+    → reading (sheetText g ask) rows ≡ answered 0 (sheet g ask)
 unfolding writing
-written-back g k q bytes rows v e l =
+written-back g ask bytes rows v e l =
     let needed = roomCause bytes (sheetLength (length g)) ∷ [] in
-    accepted-back g k q rows (passed-front (requestCheck g k q) needed (answered-passed (requestCheck g k q ++ needed) (sheetLength (length g)) v tt tt e)) l
+    accepted-back g ask rows (passed-front (requestCheck g ask) needed (answered-passed (requestCheck g ask ++ needed) (sheetLength (length g)) v tt tt e)) l

@@ -3,6 +3,7 @@ ghost use mathlib.Core.Path.{_≡_};
 ghost use mathlib.Core.List.{_++_};
 ghost use Prim.Native.Nat.{_≤_};
 ghost use lib.ListN.{length, drop};
+ghost use Rattle.judging.specs.Request.{asked};
 ghost use Rattle.judging.specs.Refusal.{answered, firstOf};
 ghost use Rattle.sheets.specs.Lines.{field};
 ghost use Rattle.sheets.specs.Sheet.{fieldDigits, headingLength, headingText, headingCauses};
@@ -65,7 +66,7 @@ pub fn read_heading(text: &[u8]) -> SheetRead
 // Writes line 1 to the front of the text.
 pub fn write_heading(text: &mut [u8], n: usize, request: Request)
     requires { ⌜ headingLength ≤ length (now text) ⌝ }
-    ensures { λ _. ⌜ now (text .exit) ≡ headingText n (request .slack) (request .floor) ++ drop headingLength (now (text .entry)) ⌝ }
+    ensures { λ _. ⌜ now (text .exit) ≡ headingText n (asked request) ++ drop headingLength (now (text .entry)) ⌝ }
 {
     digits::write(&mut text[VERTICES_AT..SLACK_AT], n as u64);
     digits::write(&mut text[SLACK_AT..FLOOR_AT], request.slack as u64);

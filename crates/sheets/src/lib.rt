@@ -1,5 +1,6 @@
 // Sheets: a graph with a request as text. Line 1 has n, k and q, two digits each; then each row has a line of 16 digits.
 ghost use Rattle.sets.specs.Words.{masks};
+ghost use Rattle.judging.specs.Request.{asked};
 ghost use Rattle.sheets.specs.Calls.{ReadSheet, WroteSheet};
 ghost use Rattle.sheets.specs.Setting.{HeadingRead};
 
@@ -27,7 +28,7 @@ pub enum SheetWritten {
 
 // Reads what follows line 1, which said n and the request.
 fn read_rows(text: &[u8], n: usize, request: Request, rows: &mut [u64]) -> SheetRead
-    requires { ⌜ HeadingRead n (request .slack) (request .floor) (now text) ⌝ }
+    requires { ⌜ HeadingRead n (asked request) (now text) ⌝ }
     ensures { λ r. ⌜ ReadSheet (now (text .entry)) (masks (now (rows .entry))) (masks (now (rows .exit))) r ⌝ }
 {
     let below = &text[heading::HEADING_LENGTH..];
@@ -64,7 +65,7 @@ pub fn read_sheet(text: &[u8], rows: &mut [u64]) -> SheetRead
 // Refusals: 1, 2, 3, 4, 5, 9, in this order; a refusal leaves the whole text as it was.
 // Cost: one pass over the table and one over the sheet.
 pub fn write_sheet(rows: &[u64], request: Request, text: &mut [u8]) -> SheetWritten
-    ensures { λ r. ⌜ WroteSheet (masks (now (rows .entry))) (request .slack) (request .floor) (now (text .entry)) (now (text .exit)) r ⌝ }
+    ensures { λ r. ⌜ WroteSheet (masks (now (rows .entry))) (asked request) (now (text .entry)) (now (text .exit)) r ⌝ }
 {
     let checked = check::check_request(rows, request);
     if let Checked::Failed(f) = checked {

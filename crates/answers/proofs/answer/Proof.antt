@@ -8,6 +8,7 @@ use lib.ListN.{length, replicate}
 use lib.Seq.{length-take-le}
 use Rattle.sets.specs.Words.{width, masks}
 use Rattle.sets.specs.Words.Operations.{count-masks}
+use Rattle.judging.specs.Request.{Request, asked}
 use Rattle.judging.specs.Refusal.{answered, mostVertices}
 use Rattle.sheets.specs.Sheet.{reading, rowsAfter}
 use Rattle.sheets.specs.Calls.{heading, headingOf, readReply}
@@ -33,11 +34,8 @@ start c = c .before .before .before .before .before .before .before
 abbrev n : tie.After-known-told → ℕ
 n c = c .before .read .given .0 .0
 
-abbrev k : tie.After-known-told → ℕ
-k c = c .before .read .given .0 .1 .0 .slack
-
-abbrev q : tie.After-known-told → ℕ
-q c = c .before .read .given .0 .1 .0 .floor
+abbrev ask : tie.After-known-told → Request
+ask c = asked (c .before .read .given .0 .1 .0)
 
 abbrev words : tie.After-known-told → List ℕ
 words c = c .before .before .before .before .read-sheet .last .1 .0
@@ -46,7 +44,7 @@ words c = c .before .before .before .before .read-sheet .last .1 .0
 room : length (masks (replicate width 0)) ≡ mostVertices
 room = sym (count-masks (replicate width 0))
 
-gave : (c : tie.After-known-told) → answered 0 (heading (n c) (k c) (q c)) ≡ headingOf (reading (now (start c .args .text)) mostVertices)
+gave : (c : tie.After-known-told) → answered 0 (heading (n c) (ask c)) ≡ headingOf (reading (now (start c .args .text)) mostVertices)
 gave c =
     sym (ap readReply (c .before .read .given .1)) ∙ c .before .before .before .before .read-sheet .ensures .reply
     ∙ ap (λ (m : ℕ). headingOf (reading (now (start c .args .text)) m)) room
@@ -59,7 +57,7 @@ stored c =
 fits : (c : tie.After-known-told) → n c ≤ length (words c)
 fits c =
     let s = start c .args in
-    rows-fit (now (s .text)) (n c) (k c) (q c) (masks (replicate width 0)) (words c) (gave c) (stored c)
+    rows-fit (now (s .text)) (n c) (ask c) (masks (replicate width 0)) (words c) (gave c) (stored c)
 
 array-share-prefix-rows : tie.Need-array-share-prefix-rows
 array-share-prefix-rows c = fits c
@@ -81,7 +79,7 @@ returns c =
     let at = c .before .before .before .before in
     let s = start at .args in
     let listed = c .list-out in
-    answer-listed (now (s .text)) (n at) (k at) (q at) (masks (replicate width 0)) (words at) (gave at) (stored at)
+    answer-listed (now (s .text)) (n at) (ask at) (masks (replicate width 0)) (words at) (gave at) (stored at)
     (masks (now (s .slots))) (masks (listed .last .1 .1 .0)) (now (s .out)) (listed .last .1 .1 .1 .0) (listed .result) (listed .ensures)
 
 returns-2 : tie.Need-returns-2

@@ -7,6 +7,7 @@ use denote.Ref.{now}
 use lib.ListN.{length}
 use lib.Seq.{length-take-le}
 use Rattle.sets.specs.Words.{masks}
+use Rattle.judging.specs.Request.{asked}
 use Rattle.judging.specs.Refusal.{answered}
 use Rattle.search.specs.Calls.{listReply, listFoundReply}
 use Rattle.answers.specs.AnswerLaws.{listed-fits, listed-few, listed-out, not-listed}
@@ -30,13 +31,13 @@ m c = c .before .found .given .0 .0
 abbrev words : tie.After-known-told → List ℕ
 words c = c .before .before .before .before .before .list .last .1 .1 .0
 
-gave : (c : tie.After-known-told) → answered (m c) tt ≡ listReply (masks (now (start c .args .rows))) (start c .args .request .slack) (start c .args .request .floor) (length (masks (now (start c .args .slots))))
+gave : (c : tie.After-known-told) → answered (m c) tt ≡ listReply (masks (now (start c .args .rows))) (asked (start c .args .request)) (length (masks (now (start c .args .slots))))
 gave c = sym (ap listFoundReply (c .before .found .given .1)) ∙ c .before .before .before .before .before .list .ensures .reply
 
 fits : (c : tie.After-known-told) → m c ≤ length (words c)
 fits c =
     let s = start c in
-    listed-fits (masks (now (s .args .rows))) (s .args .request .slack) (s .args .request .floor) (masks (now (s .args .slots))) (m c) (gave c) (words c) (c .before .before .before .before .before .list .ensures .slots)
+    listed-fits (masks (now (s .args .rows))) (asked (s .args .request)) (masks (now (s .args .slots))) (m c) (gave c) (words c) (c .before .before .before .before .before .list .ensures .slots)
 
 slice-reshare-prefix-write-list : tie.Need-slice-reshare-prefix-write-list
 slice-reshare-prefix-write-list c = fits c
@@ -51,7 +52,7 @@ write-list-requires c κs =
     omega (
       arith,
       s .pre .list,
-      listed-few (masks (now (s .args .rows))) (s .args .request .slack) (s .args .request .floor) (masks (now (s .args .slots))) (m at) (gave at) (words at) (at .before .before .before .before .before .list .ensures .slots),
+      listed-few (masks (now (s .args .rows))) (asked (s .args .request)) (masks (now (s .args .slots))) (m at) (gave at) (words at) (at .before .before .before .before .before .list .ensures .slots),
     )
 
 enum-known-found-2 : tie.Need-enum-known-found-2
@@ -71,7 +72,7 @@ returns c =
     let at = c .before .before .before .before .before in
     let s = start at in
     let written = c .before .before .write-list in
-    listed-out (masks (now (s .args .rows))) (s .args .request .slack) (s .args .request .floor) (masks (now (s .args .slots))) (m at) (gave at) (words at) (at .before .before .before .before .before .list .ensures .slots)
+    listed-out (masks (now (s .args .rows))) (asked (s .args .request)) (masks (now (s .args .slots))) (m at) (gave at) (words at) (at .before .before .before .before .before .list .ensures .slots)
     (now (s .args .out)) (written .last .1 .0) (written .result) (written .ensures)
 
 same-length-3 : tie.Need-same-length-3
@@ -86,7 +87,7 @@ returns-2 c =
     let listed = c .before .before .before .before .before .before .before .before .before .list in
     let found = c .before .before .before .before .before .found2 .given in
     let written = c .before .before .write-refusal in
-    not-listed (masks (now (s .args .rows))) (s .args .request .slack) (s .args .request .floor) (masks (now (s .args .slots))) (found .0 .0)
+    not-listed (masks (now (s .args .rows))) (asked (s .args .request)) (masks (now (s .args .slots))) (found .0 .0)
     (now (s .args .out)) (written .last .1 .0) (written .result) (masks (listed .last .1 .1 .0)) (sym (ap listFoundReply (found .1)) ∙ listed .ensures .reply) (listed .ensures .slots) (written .ensures)
 
 pub list-out-spec : {M : Type 1} → statement M

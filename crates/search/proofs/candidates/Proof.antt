@@ -14,7 +14,7 @@ core-requires : tie.Need-core-requires
 core-requires c κs = search needs
 
 returns : tie.Need-returns
-returns c = core-candidates _ _ _ _ (c .core .ensures)
+returns c = core-candidates _ _ _ (c .core .ensures)
 
 count-requires : tie.Need-count-requires
 count-requires c κs = search needs
@@ -23,7 +23,7 @@ full-requires : tie.Need-full-requires
 full-requires c κs = (omega (arith, c .count .ensures, c .before .before .before .pre .sized .some), omega (arith, c .count .ensures, c .before .before .before .pre .sized .most))
 
 returns-2 : tie.Need-returns-2
-returns-2 c = all-candidates _ _ _ _ (c .full .ensures ∙ ap full (c .before .count .ensures))
+returns-2 c = all-candidates _ _ _ (c .full .ensures ∙ ap full (c .before .count .ensures))
 
 pub candidates-spec : {M : Type 1} → statement M
 candidates-spec =

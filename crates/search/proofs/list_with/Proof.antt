@@ -9,6 +9,7 @@ use lib.ListN.{length, replicate}
 use lib.Seq.{length-front, length-take-le}
 use Rattle.sets.specs.Words.{masks}
 use Rattle.sets.specs.Words.Operations.{count-masks, take-masks}
+use Rattle.judging.specs.Request.{asked}
 use Rattle.judging.specs.Calls.{numberOf, valueOf, checkedReply, requestCheck}
 use Rattle.judging.specs.RefusalLaws.{first-append}
 use Rattle.judging.specs.CallLaws.{check-failed, none-holds}
@@ -31,15 +32,15 @@ returns c =
     let f = c .before .checked .given .0 .0 in
     let e = c .before .checked .given .1 in
     record {
-      reply = check-failed (requestCheck (masks (now (c .before .before .before .before .before .before .args .rows))) (c .before .before .before .before .before .before .args .request .slack) (c .before .before .before .before .before .before .args .request .floor)) _ (c .before .before .before .check-request .ensures) f _ e ∙ sym (first-append (requestCheck (masks (now (c .before .before .before .before .before .before .args .rows))) (c .before .before .before .before .before .before .args .request .slack) (c .before .before .before .before .before .before .args .request .floor)) _ _);
-      slots = refused-slots _ _ _ (numberOf f) (valueOf f) _ (sym (c .before .before .before .check-request .ensures) ∙ ap checkedReply e);
+      reply = check-failed (requestCheck (masks (now (c .before .before .before .before .before .before .args .rows))) (asked (c .before .before .before .before .before .before .args .request))) _ (c .before .before .before .check-request .ensures) f _ e ∙ sym (first-append (requestCheck (masks (now (c .before .before .before .before .before .before .args .rows))) (asked (c .before .before .before .before .before .before .args .request))) _ _);
+      slots = refused-slots _ _ (numberOf f) (valueOf f) _ (sym (c .before .before .before .check-request .ensures) ∙ ap checkedReply e);
     }
 
 enum-told : tie.Need-enum-told
 enum-told c = search needs
 
 enumerate-requires : tie.Need-enumerate-requires
-enumerate-requires c κs = accepted _ _ _ (none-holds _ _ (c .before .before .before .check-request .ensures) (c .before .enum-told .given .1))
+enumerate-requires c κs = accepted _ _ (none-holds _ _ (c .before .before .before .check-request .ensures) (c .before .enum-told .given .1))
 
 count-requires : tie.Need-count-requires
 count-requires c κs = search needs
@@ -54,11 +55,11 @@ returns-2 : tie.Need-returns-2
 returns-2 c =
     let e = (none-holds _ _ (c .before .before .before .before .before .before .before .before .before .before .before .before .before .check-request .ensures) (c .before .before .before .before .before .before .before .before .before .before .before .enum-told .given .1)) in
     let x = c .before .before .before .before .before .before .before .before .before .enumerate .ensures in
-    let long = list-long _ _ _ e _ _ _ x in
+    let long = list-long _ _ e _ _ _ x in
     let less : length (masks (now (c .before .before .before .before .before .before .before .before .before .before .before .before .before .before .before .before .args .slots))) < c .before .before .before .before .before .before .before .before .before .enumerate .result = omega (arith, c .before .before .before .before .if1 .taken, c .before .before .before .before .before .count .ensures, long) in
     record {
-      reply = list-short _ _ _ e _ _ _ x less;
-      slots = c .before .before .clear .ensures ∙ ap (λ (n : ℕ). replicate n 0) long ∙ list-cleared _ _ _ e _ _ _ x less;
+      reply = list-short _ _ e _ _ _ x less;
+      slots = c .before .before .clear .ensures ∙ ap (λ (n : ℕ). replicate n 0) long ∙ list-cleared _ _ e _ _ _ x less;
     }
 
 -- the list fits
@@ -84,10 +85,10 @@ returns-3 c =
     let after : List ℕ = c .before .before .before .before .before .before .before .before .before .enumerate .last .1 .1 .1 .1 .0 in
     let part : List ℕ = c .before .before .sort .last .0 in
     let m : ℕ = c .before .before .before .before .before .before .before .before .before .enumerate .result in
-    let enough : m ≤ length (masks (now (c .before .before .before .before .before .before .before .before .before .before .before .before .before .before .before .before .args .slots))) = omega (arith, fits (c .before .before .before .before), list-long _ _ _ e _ _ _ x) in
+    let enough : m ≤ length (masks (now (c .before .before .before .before .before .before .before .before .before .before .before .before .before .before .before .before .args .slots))) = omega (arith, fits (c .before .before .before .before), list-long _ _ e _ _ _ x) in
     record {
-      reply = list-fits _ _ _ e _ _ _ x enough;
-      slots = back-before after part m ∙ list-slots _ _ _ e _ _ _ x (masks part) (subst (λ (t : List ℕ). Sorts t (masks part)) (take-masks m after) (c .before .before .sort .ensures)) enough;
+      reply = list-fits _ _ e _ _ _ x enough;
+      slots = back-before after part m ∙ list-slots _ _ e _ _ _ x (masks part) (subst (λ (t : List ℕ). Sorts t (masks part)) (take-masks m after) (c .before .before .sort .ensures)) enough;
     }
 
 pub list-with-spec : {M : Type 1} → statement M

@@ -5,6 +5,7 @@ use native.Mathlib.Omega.{arith}
 use denote.Ref.{now}
 use lib.ListN.{length}
 use Rattle.sets.specs.Words.{width, masks}
+use Rattle.judging.specs.Request.{asked}
 use Rattle.sheets.specs.WriteLaws.{write-refused, write-sized, text-refused, text-written, room-below}
 use borrow.Author.Needs.{needs}
 use Rattle.sheets.proofs.write_sheet.Statement.{statement}
@@ -20,7 +21,7 @@ returns : tie.Need-returns
 returns c =
     let s = c .before .before .before .before .before .before in
     let checked = c .before .before .before .check-request in
-    write-refused (masks (now (s .args .rows))) (s .args .request .slack) (s .args .request .floor) (now (s .args .text))
+    write-refused (masks (now (s .args .rows))) (asked (s .args .request)) (now (s .args .text))
     (checked .result) (checked .ensures) (c .before .checked .given .0 .0) (c .before .checked .given .1)
 
 enum-told : tie.Need-enum-told
@@ -33,7 +34,7 @@ few : (c : tie.After-count) → length (masks (now (c .before .before .before .b
 few c =
     let s = c .before .before .before .before .before .before in
     let checked = c .before .before .before .check-request in
-    write-sized (masks (now (s .args .rows))) (s .args .request .slack) (s .args .request .floor) (now (s .args .text)) (checked .result) (checked .ensures) (c .before .enum-told .given .1)
+    write-sized (masks (now (s .args .rows))) (asked (s .args .request)) (now (s .args .text)) (checked .result) (checked .ensures) (c .before .enum-told .given .1)
 
 mul-needed : tie.Need-mul-needed
 mul-needed c = omega (arith, few c)
@@ -45,7 +46,7 @@ returns-2 : tie.Need-returns-2
 returns-2 c =
     let s = c .before .before .before .before .before .before .before in
     let checked = c .before .before .before .before .check-request in
-    text-refused (masks (now (s .args .rows))) (s .args .request .slack) (s .args .request .floor) (now (s .args .text))
+    text-refused (masks (now (s .args .rows))) (asked (s .args .request)) (now (s .args .text))
     (checked .result) (checked .ensures) (c .before .before .enum-told .given .1) (c .before .count .result) (c .before .count .ensures) (c .if1 .taken)
 
 write-heading-requires : tie.Need-write-heading-requires
@@ -75,7 +76,7 @@ returns-3 c =
     let s = c .before .before .before .before .before .before .before .before .before .before .before .before .before .before .before in
     let at = c .before .before .before .before .before .before .before .before .before in
     let checked = at .before .before .before .check-request in
-    text-written (masks (now (s .args .rows))) (s .args .request .slack) (s .args .request .floor) (now (s .args .text))
+    text-written (masks (now (s .args .rows))) (asked (s .args .request)) (now (s .args .text))
     (checked .result) (checked .ensures) (at .before .enum-told .given .1) (at .count .result) (at .count .ensures)
     (c .before .before .before .before .before .before .write-heading .last .0) (c .before .before .write-rows .last .1 .0)
     (c .before .before .before .before .before .before .before .before .if1 .left) (c .before .before .before .before .before .before .write-heading .ensures) (c .before .before .write-rows .ensures)

@@ -1,6 +1,5 @@
 -- `search::branch::leaf` meets its contract: an extendable plex adds nothing, any other itself.
 use mathlib.Core.Path.{sym, _∙_}
-use Rattle.sets.specs.RangeLaws.{false-fails}
 use Rattle.search.specs.Ready.{unless-none, unless-one}
 use borrow.Author.Needs.{needs}
 use Rattle.search.proofs.branch.leaf.Statement.{statement}
@@ -13,7 +12,7 @@ returns : tie.Need-returns
 returns c = unless-none _ _ _ _ _ (sym (c .before .is-extendable .ensures) ∙ c .if1 .taken)
 
 push-requires : tie.Need-push-requires
-push-requires c κs = c .before .before .before .before .before .pre .room (false-fails _ (sym (c .before .before .is-extendable .ensures) ∙ c .before .if1 .left))
+push-requires c κs = search needs
 
 same-length : tie.Need-same-length
 same-length c = search needs

@@ -9,6 +9,7 @@ use borrow.Author.Needs.{needs}
 use borrow.Author.Tests.{eqb-true, eqb-false}
 use lib.Bits.{bitAnd, bitOr}
 use lib.ListN.{length}
+use Rattle.judging.specs.Request.{request}
 use Rattle.sets.specs.Words.{mask, masks}
 use Rattle.sets.specs.SubsetLaws.{positive-of}
 use Rattle.sets.specs.WalkLaws.{walk-falls, walk-goes-on, walk-over}
@@ -56,7 +57,8 @@ take-below t = and 2 take-kinds.ps (falls 2 take-kinds.ps _<_ μ-take t) take.Pr
 
 abbrev Inv-loop : sweep-lts.InvT-loop
 Inv-loop rows q have s base m todo slots₀ count more waiting₀ left₀ n₀ slots waiting left n =
-    Swept (masks rows) q have (mask s) (mask base) (mask m) (mask todo) (masks slots₀) count (mask waiting) (mask left) (masks slots) n × (length slots ≡ length slots₀)
+    Swept (masks rows) (request 1 q) have (mask s) (mask base) (mask m) (mask todo) (masks slots₀) count
+    (mask waiting) (mask left) (masks slots) n × (length slots ≡ length slots₀)
 
 abbrev μ-loop : sweep-lts.MeasureT-loop
 μ-loop rows q have s base m todo slots₀ count more waiting₀ left₀ n₀ slots waiting left n = mask left

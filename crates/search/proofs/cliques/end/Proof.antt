@@ -3,7 +3,7 @@ use mathlib.Core.Path.{sym, _∙_}
 use borrow.Author.Needs.{needs}
 use borrow.Author.Tests.{eqb-true, eqb-false}
 use Rattle.sets.specs.SubsetLaws.{positive-of}
-use Rattle.search.specs.Cliques.{lonely-placeable, lonely-adds}
+use Rattle.search.specs.Cliques.{lonely-below, lonely-adds}
 use Rattle.search.specs.CliqueEnds.{end-none}
 use Rattle.search.proofs.cliques.end.Statement.{statement}
 use Rattle.search.proofs.cliques.end.Tie as tie
@@ -15,7 +15,7 @@ count-requires : tie.Need-count-requires
 count-requires c κs = tt
 
 place-clique-requires : tie.Need-place-clique-requires
-place-clique-requires c κs = lonely-placeable _ _ _ _ _ _ _ (c .before .before .before .before .before .before .pre) (eqb-true _ _ (sym (c .before .before .before .is-empty .ensures) ∙ c .before .before .if1 .taken)) _ (c .before .count .ensures)
+place-clique-requires c κs = lonely-below _ _ _ _ _ _ _ (c .before .before .before .before .before .before .pre) (eqb-true _ _ (sym (c .before .before .before .is-empty .ensures) ∙ c .before .before .if1 .taken)) _ (c .before .count .ensures)
 
 same-length : tie.Need-same-length
 same-length c = search needs

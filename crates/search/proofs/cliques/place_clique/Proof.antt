@@ -10,13 +10,13 @@ returns : tie.Need-returns
 returns c = unless-none _ _ _ _ _ (lt-ltb _ _ (c .if1 .taken))
 
 push-requires : tie.Need-push-requires
-push-requires c κs = c .before .before .before .pre .room (c .before .if1 .left)
+push-requires c κs = search needs
 
 same-length : tie.Need-same-length
 same-length c = search needs
 
 returns-2 : tie.Need-returns-2
-returns-2 c = unless-one _ _ _ _ _ _ _ (le-ltb _ _ (c .before .before .before .before .if1 .left)) (c .before .before .push .ensures (2 ^ (c .before .before .before .before .before .before .args .n)) (c .before .before .before .before .before .before .pre .below))
+returns-2 c = unless-one _ _ _ _ _ _ _ (le-ltb _ _ (c .before .before .before .before .if1 .left)) (c .before .before .push .ensures (2 ^ (c .before .before .before .before .before .before .args .n)) (c .before .before .before .before .before .before .pre))
 
 pub place-clique-spec : {M : Type 1} → statement M
 place-clique-spec = tie.close (tie.spec returns push-requires same-length returns-2)

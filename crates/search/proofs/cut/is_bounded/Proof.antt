@@ -20,7 +20,7 @@ second-bound-requires c κs = subst (λ (x : ℕ). Boundable (masks (now (c .bef
 
 returns : tie.Need-returns
 returns c = λ e.
-    bounded-empty _ _ _ _ _ _ (c .before .before .before .before .pre)
+    bounded-empty _ _ _ _ _ (c .before .before .before .before .pre)
     (omega (arith, ltb-true (c .second-bound .result) (c .before .before .before .before .args .q) e, c .second-bound .ensures, ap (λ (x : ℕ). secondBound (masks (now (c .before .before .before .before .args .rows))) (c .before .before .before .before .args .k) (mask (c .before .before .before .before .args .s)) x (c .before .before .before .before .args .v)) (c .before .with .ensures)))
 
 returns-2 : tie.Need-returns-2

@@ -1,10 +1,8 @@
 -- `search::cut::is_short` meets its contract: the size decides first, and then the partition bound where it is asked.
 use native.Mathlib.Omega.{arith}
 use mathlib.Core.Path.{sym}
-use denote.Ref.{now}
-use Rattle.sets.specs.Words.{mask, masks}
 use Rattle.sets.specs.RangeLaws.{true-is-not-false}
-use Rattle.search.specs.FoundLaws.{small-short}
+use Rattle.search.specs.PartitionLaws.{short-all}
 use borrow.Author.Needs.{needs}
 use Rattle.search.proofs.cut.is_short.Statement.{statement}
 use Rattle.search.proofs.cut.is_short.Tie as tie
@@ -13,7 +11,7 @@ size-requires : tie.Need-size-requires
 size-requires c κs = search needs
 
 returns : tie.Need-returns
-returns c = (λ _. small-short (masks (now (c .before .before .before .args .rows))) (c .before .before .before .args .k) (c .before .before .before .args .q) (mask (c .before .before .before .args .s)) 0 (mask (c .before .before .before .args .a)) (omega (arith, c .if1 .taken, c .before .size .ensures .0)), λ e. absurd (true-is-not-false e))
+returns c = (λ _. short-all _ _ _ _ _ _ (c .before .size .ensures .0) (c .if1 .taken), λ e. absurd (true-is-not-false e))
 
 is-asked-requires : tie.Need-is-asked-requires
 is-asked-requires c κs = search needs

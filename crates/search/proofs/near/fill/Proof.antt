@@ -45,7 +45,7 @@ same-length c = omega (arith, count-masks (c .before .loop .near), count-masks (
 returns : tie.Need-returns Inv-loop μ-loop
 returns c =
     let pre = c .before .before .before .before .before .pre in
-    written-filled _ _ _ _ _ _ _ _ _ (pre .1) (pre .2) (omega arith) (c .before .loop .inv)
+    written-filled _ _ _ _ _ _ _ _ (pre .1) (pre .2) (omega arith) (c .before .loop .inv)
 
 pub fill-spec : {M : Type 1} → statement M
 fill-spec = tie.close (tie.spec Inv-loop μ-loop count-requires loop-holds near-row-requires put-requires add-v loop-less loop-again same-length returns)

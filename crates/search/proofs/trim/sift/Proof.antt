@@ -8,17 +8,17 @@ returns : tie.Need-returns
 returns c = c .before .before .pre .beside
 
 with-requires : tie.Need-with-requires
-with-requires c κs = omega (arith, sift-vertex _ _ _ _ _ _ _ (c .before .before .pre), c .before .before .pre .most)
+with-requires c κs = omega (arith, sift-vertex _ _ _ _ _ _ (c .before .before .pre), c .before .before .pre .most)
 
 join-requires : tie.Need-join-requires
 join-requires c κs = tt
 
 pair-row-requires : tie.Need-pair-row-requires
 pair-row-requires c κs =
-    (sift-pairable _ _ _ _ _ _ _ (c .before .before .before .before .pre) _ _ (c .before .with .ensures) (c .join .ensures), sift-below _ _ _ _ _ _ _ (c .before .before .before .before .pre), sift-vertex _ _ _ _ _ _ _ (c .before .before .before .before .pre))
+    (sift-pairable _ _ _ _ _ _ (c .before .before .before .before .pre) _ _ (c .before .with .ensures) (c .join .ensures), sift-below _ _ _ _ _ _ (c .before .before .before .before .pre), sift-vertex _ _ _ _ _ _ (c .before .before .before .before .pre))
 
 returns-2 : tie.Need-returns-2
-returns-2 c = sift-beside _ _ _ _ _ _ _ (c .before .before .before .before .before .pre) _ _ _ (c .before .before .with .ensures) (c .before .join .ensures) (c .pair-row .ensures)
+returns-2 c = sift-beside _ _ _ _ _ _ (c .before .before .before .before .before .pre) _ _ _ (c .before .before .with .ensures) (c .before .join .ensures) (c .pair-row .ensures)
 
 pub sift-spec : {M : Type 1} → statement M
 sift-spec = tie.close (tie.spec returns with-requires join-requires pair-row-requires returns-2)

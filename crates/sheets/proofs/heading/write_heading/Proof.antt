@@ -3,6 +3,7 @@ use native.Mathlib.Omega.{arith}
 use mathlib.Core.Path.{refl, ap, _∙_}
 use denote.Ref.{now}
 use lib.ListN.{length}
+use Rattle.judging.specs.Request.{asked}
 use Rattle.sheets.specs.HeadingLaws.{heading-filled, heading-keeps-length}
 use borrow.Author.Needs.{needs}
 use Rattle.sheets.proofs.heading.write_heading.Statement.{statement}
@@ -50,7 +51,7 @@ slice-write-text c = search needs
 filled : tie.Need-returns
 filled c =
     let s = c .before .before .before .before .before .before .before .before .before .before .before .before .before in
-    heading-filled (s .args .n) (s .args .request .slack) (s .args .request .floor) (now (s .args .text))
+    heading-filled (s .args .n) (asked (s .args .request)) (now (s .args .text))
     (c .before .before .before .before .before .before .before .before .before .before .write .last .0) (c .before .before .before .before .before .before .write2 .last .0) (c .before .before .write3 .last .0)
     _ _ _ (s .pre)
     (c .before .before .before .before .before .before .before .before .before .before .write .ensures) refl
@@ -60,7 +61,7 @@ filled c =
 same-length : tie.Need-same-length
 same-length c =
     let a = c .before .before .before .before .before .before .before .before .before .before .before .before .before .args in
-    ap length (filled c) ∙ heading-keeps-length (a .n) (a .request .slack) (a .request .floor) (now (a .text)) (omega arith)
+    ap length (filled c) ∙ heading-keeps-length (a .n) (asked (a .request)) (now (a .text)) (omega arith)
 
 returns : tie.Need-returns
 returns c = filled c
