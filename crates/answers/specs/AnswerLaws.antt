@@ -4,11 +4,11 @@ use native.Mathlib.Omega.{arith}
 use native.Mathlib.Nat.{le-of-eq}
 use mathlib.Core.Path.{_≡_, refl, sym, ap, ap₂, _∙_, subst}
 use mathlib.Core.List.{List, [], _∷_, _++_, append-assoc, append-nil}
-use lib.ListN.{length, take, drop, set, replicate, length-append, length-drop, length-replicate, drop-of-length-le}
+use lib.ListN.{length, take, drop, set, length-append, length-drop, drop-of-length-le}
 use lib.Seq.{take-at, drop-at, drop-drop, length-take-le}
 use borrow.Rule.Slice.PartAt.{part-to-end}
-use Rattle.sets.specs.Words.{masks}
-use Rattle.sets.specs.Words.Operations.{count-masks, take-masks}
+use Rattle.sets.specs.Words.{perSet, masks}
+use Rattle.sets.specs.Words.Operations.{count-masks}
 use Rattle.judging.specs.Request.{Request}
 use Rattle.judging.specs.Refusal.{Reply, refused, answered, mostVertices}
 use Rattle.judging.specs.Calls.{refusal, numberOf, valueOf}
@@ -21,6 +21,7 @@ use Rattle.sheets.specs.Sheet.{Sheet, rowDigits, rowLength, reading, over, rows
 use Rattle.sheets.specs.Calls.{Heading, heading, headingOf}
 use Rattle.sheets.specs.Output.{letterR, blank, figureZero, decimals, listText, refusalText, replyText, listLength, refusalLength}
 use Rattle.lists.specs.Listing.{listing}
+use Rattle.lists.specs.PartLaws.{lent-before}
 use Rattle.search.specs.Calls.{listReply, slotsAfter}
 use Rattle.search.specs.OutcomeLaws.{list-count, list-room, slots-list, slots-first}
 use Rattle.answers.specs.Answer.{withList, answerOf, slotsOf, answerText, slotsLeft, Writes, WritesList, Answers, Room}
@@ -57,7 +58,7 @@ over-both n a b t u p l e f =
     ∙ ap (λ (v : List ℕ). (a ++ b) ++ v) (drop-drop (length b) n t ∙ ap (λ (m : ℕ). drop m t) long)
 
 -- so many slots, and bytes for the longest answer to them
-pub enough-room : (words out : List ℕ) (slots bytes : ℕ) → length words ≡ slots → length out ≡ bytes → listLength slots ≤ bytes → refusalLength ≤ bytes
+pub enough-room : (words out : List ℕ) (slots bytes : ℕ) → length words ≡ slots * perSet → length out ≡ bytes → listLength slots ≤ bytes → refusalLength ≤ bytes
     → Room (masks words) out
 enough-room words out slots bytes e f l h = record { list = omega (arith, count-masks words); refusal = omega arith }
 
@@ -120,55 +121,57 @@ module _ (g : List ℕ) (ask : Request) (before : List ℕ) where
   module _ (m : ℕ) (e : answered m tt ≡ listReply g ask (length before)) where
     -- the words that are left in the slots
     module _ (ws : List ℕ) (s : masks ws ≡ slotsAfter g ask before) where
-      pub listed-fits : m ≤ length ws
+      pub listed-fits : m ≤ length (masks ws)
       listed-fits =
           omega (
             arith,
             list-count g ask (length before) (sym e),
-            count-masks ws,
             ap length (s ∙ slots-list g ask before (sym e)),
             length-append (listing g ask) (drop m before),
           )
 
-      listed-front : masks (take m ws) ≡ listing g ask
-      listed-front = take-masks m ws ∙ ap (take m) s ∙ slots-first g ask before (sym e)
+      -- the list ends at the word `end`
+      module _ (end : ℕ) (z : end ≡ m * perSet) where
+        listed-front : masks (take end ws) ≡ listing g ask
+        listed-front = lent-before ws m end z listed-fits ∙ ap (take m) s ∙ slots-first g ask before (sym e)
 
-      pub listed-few : length (masks (take m ws)) ≤ length before
-      listed-few = omega (arith, ap length listed-front, list-count g ask (length before) (sym e), list-room g ask (length before) (sym e))
+        pub listed-few : length (masks (take end ws)) ≤ length before
+        listed-few = omega (arith, ap length listed-front, list-count g ask (length before) (sym e), list-room g ask (length before) (sym e))
 
-      pub listed-out : (old out : List ℕ) (r : ℕ) → Writes (listText (masks (take m ws))) old out r → WritesList g ask before (masks ws) old out r
-      listed-out old out r w =
-          record {
-            written =
-                subst (λ (x : Reply (Unit {0})). Writes (replyText (withList x (listing g ask))) old out r) e
-                (subst (λ (l : List ℕ). Writes (listText l) old out r) listed-front w);
-            slots = s;
-          }
+        pub listed-out : (old out : List ℕ) (r : ℕ) → Writes (listText (masks (take end ws))) old out r → WritesList g ask before (masks ws) old out r
+        listed-out old out r w =
+            record {
+              written =
+                  subst (λ (x : Reply (Unit {0})). Writes (replyText (withList x (listing g ask))) old out r) e
+                  (subst (λ (l : List ℕ). Writes (listText l) old out r) listed-front w);
+              slots = s;
+            }
 
 -- ---- the sheet that was read
 
--- its rows are the first n of the words that were lent
-module _ (t : List ℕ) (n : ℕ) (ask : Request) (rest ws : List ℕ) (e : answered 0 (heading n ask) ≡ headingOf (reading t mostVertices))
-    (p : masks ws ≡ rowsAfter (reading t mostVertices) rest) where
-  pub rows-fit : n ≤ length ws
+-- its rows are the first n of those that were lent
+module _ (t : List ℕ) (n : ℕ) (ask : Request) (rest ws : List ℕ) (e : answered 0 (heading n ask) ≡ headingOf (reading t mostVertices)) (p : masks ws ≡ rowsAfter (reading t mostVertices) rest) where
+  pub rows-fit : n ≤ length (masks ws)
   rows-fit = go (reading t mostVertices) e p
     where
-      go : (x : Reply Sheet) → answered 0 (heading n ask) ≡ headingOf x → masks ws ≡ rowsAfter x rest → n ≤ length ws
+      go : (x : Reply Sheet) → answered 0 (heading n ask) ≡ headingOf x → masks ws ≡ rowsAfter x rest → n ≤ length (masks ws)
       go (refused c v) z y = let w : _≡_ {A = ℕ} 0 1 = cc in absurd (omega arith)
       go (answered v s) z y =
           let same : heading n ask ≡ heading (length (s .rows)) (s .request) = cc in
-          omega (arith, ap (λ (h : Heading). h .vertices) same, count-masks ws, ap length y, over-length (s .rows) rest)
+          omega (arith, ap (λ (h : Heading). h .vertices) same, ap length y, over-length (s .rows) rest)
 
-  pub answer-listed : (before after old out : List ℕ) (r : ℕ) → WritesList (masks (take n ws)) ask before after old out r → Answers t before after old out r
+  pub answer-listed : (end : ℕ) (before after old out : List ℕ) (r : ℕ) → end ≡ n * perSet → WritesList (masks (take end ws)) ask before after old out r
+      → Answers t before after old out r
   unfolding answerText slotsLeft
-  answer-listed before after old out r w = let h = go (reading t mostVertices) e p in record { written = h .0; slots = h .1 }
+  answer-listed end before after old out r at w = let h = go (reading t mostVertices) e p in record { written = h .0; slots = h .1 }
     where
       go : (x : Reply Sheet) → answered 0 (heading n ask) ≡ headingOf x → masks ws ≡ rowsAfter x rest
           → Writes (replyText (answerOf x (length before))) old out r × (after ≡ slotsOf x before)
       go (refused c v) z y = let u : _≡_ {A = ℕ} 0 1 = cc in absurd (omega arith)
       go (answered v s) z y =
           let same : heading n ask ≡ heading (length (s .rows)) (s .request) = cc in
-          let front : masks (take n ws) ≡ s .rows = take-masks n ws ∙ ap (take n) y ∙ over-front (s .rows) rest n (sym (ap (λ (h : Heading). h .vertices) same)) in
+          let front : masks (take end ws) ≡ s .rows =
+          lent-before ws n end at rows-fit ∙ ap (take n) y ∙ over-front (s .rows) rest n (sym (ap (λ (h : Heading). h .vertices) same)) in
           let h : WritesList (s .rows) (s .request) before after old out r =
           subst (λ (x : Heading). WritesList (s .rows) (x .request) before after old out r) same (subst (λ (g : List ℕ). WritesList g ask before after old out r) front w) in
           (h .written, h .slots)

@@ -6,7 +6,6 @@ ghost use Rattle.answers.specs.Answer.{Answers, WritesList, Room};
 mod output;
 
 use judging::Request;
-use judging::check;
 use search::ListFound;
 use sheets::SheetRead;
 
@@ -17,27 +16,36 @@ fn list_out(rows: &[u64], request: Request, slots: &mut [u64], out: &mut [u8]) -
 {
     let found = search::list(rows, request, slots);
     match found {
-        ListFound::Listed(m) => output::write_list(&slots[..m], out),
+        ListFound::Listed(m) => {
+            let end = sets::offset(slots, m);
+            output::write_list(&slots[..end], out)
+        }
         ListFound::Refused(f) => output::write_refusal(f, out),
     }
 }
 
-// How many slots the program has (document 01), and the length of the longest answer: a line of 17 bytes for m, and one for each slot.
-pub const SLOTS: usize = 4096;
+// How many slots the program has (document 01), and the words of them.
+const SLOTS: usize = 4096;
 
-pub const MOST_OUTPUT: usize = 69649;
+pub const SLOT_WORDS: usize = SLOTS * sets::WORDS;
+
+// The length of the longest answer: a line for m, and one for each slot.
+pub const MOST_OUTPUT: usize = (SLOTS + 1) * output::LINE_LENGTH;
 
 // Answers the text: reads it as a sheet, lists the maximal k-plexes into the slots, and writes what the program prints to the front of `out`.
 // Outcome: how many bytes that is; the bytes beyond keep their contents.
 // What is printed for a text that is refused is its refusal, which leaves the slots as they were; number 6 makes all of them 0.
 // Cost: that of the list.
-pub fn answer(text: &[u8], slots: &mut [u64; SLOTS], out: &mut [u8; MOST_OUTPUT]) -> usize
+pub fn answer(text: &[u8], slots: &mut [u64; SLOT_WORDS], out: &mut [u8; MOST_OUTPUT]) -> usize
     ensures { λ r. ⌜ Answers (now (text .entry)) (masks (now (slots .entry))) (masks (now (slots .exit))) (now (out .entry)) (now (out .exit)) r ⌝ }
 {
-    let mut rows = [0u64; check::MOST_VERTICES];
+    let mut rows = [0u64; sets::TABLE];
     let read = sheets::read_sheet(text, &mut rows);
     match read {
-        SheetRead::Read { vertices, request } => list_out(&rows[..vertices], request, slots, out),
+        SheetRead::Read { vertices, request } => {
+            let end = sets::offset(&rows, vertices);
+            list_out(&rows[..end], request, slots, out)
+        }
         SheetRead::Refused(f) => output::write_refusal(f, out),
     }
 }

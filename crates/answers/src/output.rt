@@ -12,12 +12,13 @@ ghost use Rattle.answers.specs.Answer.{Writes};
 use judging::Refusal;
 use sheets::lines;
 
-const LINE_LENGTH: usize = 17;
+// A digit for each four vertices that a mask can have, and the byte that ends the line.
+pub const LINE_LENGTH: usize = sets::WIDTH / 4 + 1;
 
 // R, the number, and a blank stand before the value's line.
 const VALUE_AT: usize = 4;
 
-const REFUSAL_LENGTH: usize = 21;
+const REFUSAL_LENGTH: usize = VALUE_AT + LINE_LENGTH;
 
 // The last decimal digit of x.
 fn decimal(x: usize) -> u8
@@ -36,7 +37,7 @@ fn write_masks(list: &[u64], out: &mut [u8])
     while i < m {
         let at = i * LINE_LENGTH;
         let end = at + LINE_LENGTH;
-        lines::write_line(&mut out[at..end], sets::get(list, i));
+        lines::write_row(&mut out[at..end], sets::get(list, i));
         i += 1;
     }
 }

@@ -186,7 +186,7 @@ module _ (g : List ℕ) where
   -- ---- what is known of an input that passes
 
   pub sized : outside 1 mostVertices (length g) ≡ false → Sized g
-  sized e = let r = within-range 1 mostVertices (length g) e in record { some = r .0; most = r .1 }
+  sized e = let r = within-range 1 mostVertices (length g) e in record { some = r .0; most = omega (arith, r .1) }
 
   pub graph-sized : firstOf (graphCheck g) passed ≡ passed → Sized g
   unfolding graphCheck vertexCause

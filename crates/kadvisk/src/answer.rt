@@ -67,7 +67,7 @@ pub fn core(answer: CoreFound) -> Outcome
     ensures { λ r. ⌜ r ≡ outcome itself (coreFoundReply answer) ⌝ }
 {
     match answer {
-        CoreFound::Core(s) => found(s),
+        CoreFound::Core(s) => found(sets::word(s, 0)),
         CoreFound::Refused(f) => refused(f),
     }
 }
@@ -76,7 +76,7 @@ pub fn reach(answer: ReachFound) -> Outcome
     ensures { λ r. ⌜ r ≡ outcome itself (reachFoundReply answer) ⌝ }
 {
     match answer {
-        ReachFound::Reach(s) => found(s),
+        ReachFound::Reach(s) => found(sets::word(s, 0)),
         ReachFound::Refused(f) => refused(f),
     }
 }

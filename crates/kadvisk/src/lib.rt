@@ -1,7 +1,7 @@
 // The library for C and Rust: every public call on numbers and lent buffers, each answered by a plain struct. None asks anything of its caller
 // beyond what its types say.
 ghost use mathlib.Core.Path.{_≡_};
-ghost use Rattle.sets.specs.Words.{mask, masks};
+ghost use Rattle.sets.specs.Words.{masks};
 ghost use Rattle.judging.specs.Request.{request};
 ghost use Rattle.judging.specs.Calls.{plexReply, maximalReply};
 ghost use Rattle.bounds.specs.Calls.{coreReply, reachReply};
@@ -32,21 +32,21 @@ pub struct ReadOutcome {
     pub floor: usize,
 }
 
-// Is the set s a k-plex of the graph with these rows? Found: 1 for yes, 0 for no. Refusals: 1, 2, 4, 5, 7.
+// Is the set of the mask s a k-plex of the graph with these rows? Found: 1 for yes, 0 for no. Refusals: 1, 2, 4, 5, 7.
 #[no_mangle]
 pub extern "C" fn kadvisk_is_plex(rows: &[u64], slack: usize, s: u64) -> Outcome
-    ensures { λ r. ⌜ r ≡ outcome yesNo (plexReply (masks (now (rows .entry))) slack (mask s)) ⌝ }
+    ensures { λ r. ⌜ r ≡ outcome yesNo (plexReply (masks (now (rows .entry))) slack s) ⌝ }
 {
-    let judged = judging::judge_plex(rows, slack, s);
+    let judged = judging::judge_plex(rows, slack, sets::of_word(s));
     answer::judged(judged)
 }
 
-// Is the set s a maximal k-plex of the graph with these rows? Found: 1 for yes, 0 for no. Refusals: 1, 2, 4, 5, 7.
+// Is the set of the mask s a maximal k-plex of the graph with these rows? Found: 1 for yes, 0 for no. Refusals: 1, 2, 4, 5, 7.
 #[no_mangle]
 pub extern "C" fn kadvisk_is_maximal(rows: &[u64], slack: usize, s: u64) -> Outcome
-    ensures { λ r. ⌜ r ≡ outcome yesNo (maximalReply (masks (now (rows .entry))) slack (mask s)) ⌝ }
+    ensures { λ r. ⌜ r ≡ outcome yesNo (maximalReply (masks (now (rows .entry))) slack s) ⌝ }
 {
-    let judged = judging::judge_maximal(rows, slack, s);
+    let judged = judging::judge_maximal(rows, slack, sets::of_word(s));
     answer::judged(judged)
 }
 
@@ -77,9 +77,9 @@ pub extern "C" fn kadvisk_first_bound(
     c: u64,
     v: usize,
 ) -> Outcome
-    ensures { λ r. ⌜ r ≡ outcome itself (firstBoundReply (masks (now (rows .entry))) slack (mask s) (mask c) v) ⌝ }
+    ensures { λ r. ⌜ r ≡ outcome itself (firstBoundReply (masks (now (rows .entry))) slack s c v) ⌝ }
 {
-    let found = bounds::first_bound(rows, slack, s, c, v);
+    let found = bounds::first_bound(rows, slack, sets::of_word(s), sets::of_word(c), v);
     answer::bound(found)
 }
 
@@ -92,9 +92,9 @@ pub extern "C" fn kadvisk_second_bound(
     c: u64,
     v: usize,
 ) -> Outcome
-    ensures { λ r. ⌜ r ≡ outcome itself (secondBoundReply (masks (now (rows .entry))) slack (mask s) (mask c) v) ⌝ }
+    ensures { λ r. ⌜ r ≡ outcome itself (secondBoundReply (masks (now (rows .entry))) slack s c v) ⌝ }
 {
-    let found = bounds::second_bound(rows, slack, s, c, v);
+    let found = bounds::second_bound(rows, slack, sets::of_word(s), sets::of_word(c), v);
     answer::bound(found)
 }
 
@@ -116,14 +116,15 @@ pub extern "C" fn kadvisk_list(
 // The cuts that the bits of a word switch on: bit 0 is the core, and so on in the order of include/kadvisk.h. Every setting gives the same list, so
 // nothing is promised of it.
 fn cuts(flags: u64) -> Cuts {
+    let on = sets::of_word(flags);
     Cuts {
-        core: sets::has(flags, 0),
-        reach: sets::has(flags, 1),
-        pairs: sets::has(flags, 2),
-        second: sets::has(flags, 3),
-        parted: sets::has(flags, 4),
-        extension: sets::has(flags, 5),
-        pivot: sets::has(flags, 6),
+        core: sets::has(on, 0),
+        reach: sets::has(on, 1),
+        pairs: sets::has(on, 2),
+        second: sets::has(on, 3),
+        parted: sets::has(on, 4),
+        extension: sets::has(on, 5),
+        pivot: sets::has(on, 6),
     }
 }
 

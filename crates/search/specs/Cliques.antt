@@ -1,11 +1,11 @@
 -- Slack 1, where a plex is a clique: the search by a pivot (Bron and Kerbosch, with Tomita's choice).
 --
---   Common g s m         m are the vertices that are adjacent to every member of s
---   Covering g c m r     r are candidates of c, among them all that some vertex of m, the pivot, is not adjacent to
---   Pivoting g c m l b   b are such candidates, and the vertices l of m are still to be looked at
---   touched g ask s b t x  x is listed, holds s, has no member outside s, b and t, and has one in t
---   Sweeping, Taking     what the calls of the search rely on: s is a clique of `have` members, m its common neighbours, and b and t are apart
---                        and candidates among them
+--   Common g s m            m are the vertices that are adjacent to every member of s
+--   Covering g c m r        r are candidates of c, among them all that some vertex of m, the pivot, is not adjacent to
+--   Pivoting g c m l b      b are such candidates, and the vertices l of m are still to be looked at
+--   touched g ask s b t x   x is listed, holds s, has no member outside s, b and t, and has one in t
+--   Sweeping, Taking        what the calls of the search rely on: the slack is 1, s is a clique of `have` members, m its common neighbours, and b and t
+--                           are apart and candidates among them
 use Prim.Native.Nat.{ℕ, _+_, _^_, _≤_, _<_}
 use native.Mathlib.Omega.{arith}
 use native.Mathlib.Nat.{le-refl}

@@ -1,6 +1,6 @@
 -- What a call of the search is to add, and what its parts rely on.
 --
---   found g ask s c x     x is listed, holds s and has no member outside s and c
+--   found g ask s c x     x is listed for the request ask, holds s and has no member outside s and c
 --   Found                 the same as a statement
 --   Empty g ask s c       nothing is to be added: the branch is cut
 --   Compatible g k s c    s is a plex, apart from c, and stays one with each candidate of c

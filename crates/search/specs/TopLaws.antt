@@ -17,7 +17,7 @@ use lib.ListN.{length, take, drop, replicate}
 use borrow.Author.Tests.{le-leb, lt-leb, lt-ltb, le-ltb}
 use Rattle.sets.specs.Set.{minus, bit, In, Sub, size, with, full}
 use Rattle.sets.specs.Graph.{row}
-use Rattle.sets.specs.Words.{width, masks}
+use Rattle.sets.specs.Words.{perSet, width, masks}
 use Rattle.sets.specs.Words.Operations.{count-masks}
 use Rattle.sets.specs.BitLaws.{bit-le, bit-or, bit-minus, bit-high}
 use Rattle.sets.specs.WordLaws.{bit-full}
@@ -61,7 +61,7 @@ pub record Startable (g : List ℕ) (ask : Request) (all s c : ℕ) : Type 0 whe
   pub fine : Compatible g (ask .slack) s c
 
 -- a table of `width` words has a row for each vertex
-pub table-room : (g ws : List ℕ) → Sized g → length ws ≡ width → length g ≤ length (masks ws)
+pub table-room : (g ws : List ℕ) → Sized g → length ws ≡ width * perSet → length g ≤ length (masks ws)
 table-room g ws z e = omega (arith, z .most, count-masks ws)
 
 -- ---- where the search starts

@@ -167,7 +167,7 @@ pub fn common(rows: &[u64], s: Set) -> Set
 
 // Places every listed clique that holds s, which has `have` members, and has no vertex outside s and c. The common neighbours of s are m.
 // Most calls have at most two candidates, which need no pivot.
-pub fn take(
+fn take(
     rows: &[u64],
     q: usize,
     have: usize,
@@ -233,4 +233,27 @@ fn sweep(
         n = take(rows, q, more, joined, inside, beside, slots, n);
     }
     n
+}
+
+// What `take` does, for the first call: the loop of `sweep` is entered at once, and the compiler puts `take` into it.
+pub fn start(
+    rows: &[u64],
+    q: usize,
+    have: usize,
+    s: Set,
+    c: Set,
+    m: Set,
+    slots: &mut [u64],
+    count: usize,
+) -> usize
+    requires { ⌜ Taking (masks (now rows)) (request 1 q) have (mask s) (mask c) (mask m) count ⌝ }
+    ensures { λ r. ⌜ Adds (2 ^ length (masks (now (rows .entry)))) (found (masks (now (rows .entry))) (request 1 q) (mask s) (mask c))
+        (masks (now (slots .entry))) count (masks (now (slots .exit))) r ⌝ }
+{
+    if sets::is_empty(c) {
+        return end(rows, q, have, s, m, slots, count);
+    }
+    let next = agenda(rows, c, m, false);
+    let others = sets::minus(c, next);
+    sweep(rows, q, have, s, others, m, next, slots, count)
 }

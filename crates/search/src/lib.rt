@@ -79,11 +79,11 @@ fn enumerate_from(
     if cuts.pivot {
         if k == 1 {
             let shared = cliques::common(rows, s);
-            return cliques::take(rows, q, sets::size(s), s, c, shared, slots, count);
+            return cliques::start(rows, q, sets::size(s), s, c, shared, slots, count);
         }
     }
     // at the lowest floor pair rows keep what the reach keeps
-    let mut near = [0u64; sets::WIDTH];
+    let mut near = [0u64; sets::TABLE];
     near::fill(
         rows,
         k,
@@ -132,7 +132,8 @@ pub fn list_with(rows: &[u64], request: Request, cuts: Cuts, slots: &mut [u64]) 
         lists::place::clear(slots);
         return ListFound::Refused(Refusal::Slots(m));
     }
-    lists::sort::sort(&mut slots[..m]);
+    let end = sets::offset(slots, m);
+    lists::sort::sort(&mut slots[..end]);
     ListFound::Listed(m)
 }
 

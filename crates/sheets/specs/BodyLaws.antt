@@ -6,10 +6,11 @@ use mathlib.Core.Bool.{Bool, _||_}
 use mathlib.Core.List.{List, _++_}
 use lib.Dec.{ltb}
 use borrow.Author.Tests.{lt-ltb, le-ltb}
-use lib.ListN.{length, take, length-append}
+use lib.ListN.{length, take, length-append, length-replicate}
 use lib.Seq.{take-at, length-take-le}
-use Rattle.sets.specs.Words.{width, masks}
-use Rattle.sets.specs.Words.Operations.{count-masks}
+use Rattle.sets.specs.Words.{perSet, width, masks}
+use Rattle.sets.specs.Words.Groups.{blank}
+use Rattle.sets.specs.Words.Operations.{count-masks, take-masks, blank-masks}
 use Rattle.judging.specs.Refusal.{refused, firstOf, graphCauses}
 use Rattle.judging.specs.Calls.{passed, checkedReply}
 use Rattle.judging.specs.Setting.{Sized}
@@ -51,28 +52,32 @@ pub passed-right : (n : ℕ) (t : List ℕ) (r : Checked) → checkedReply r ≡
 unfolding bodyCauses
 passed-right n t r e p = rows-clear n t (passed-head (rowsCause n t) (graphCauses (numbers rowDigits n t)) (none-holds (bodyCauses n t) r e p)) .0
 
--- words at the front of a longer list
-module _ (n : ℕ) where
-  pub taken-rows : (ws : List ℕ) → n ≤ length ws → length (masks (take n ws)) ≡ n
-  taken-rows ws l = sym (count-masks (take n ws)) ∙ length-take-le n ws l
+-- n sets at the front of longer words, which end at the word `end`
+module _ (n end : ℕ) (at : end ≡ n * perSet) where
+  pub taken-rows : (ws : List ℕ) → n ≤ length (masks ws) → length (masks (take end ws)) ≡ n
+  taken-rows ws l = ap (λ (m : ℕ). length (masks (take m ws))) at ∙ ap length (take-masks n ws l) ∙ length-take-le n (masks ws) l
 
-  pub taken-lines : (ws t : List ℕ) → n ≤ length ws → n ≤ width → rightLines rowDigits n t ≡ n → RowLines (length (masks (take n ws))) t
+  pub taken-lines : (ws t : List ℕ) → n ≤ length (masks ws) → n ≤ width → rightLines rowDigits n t ≡ n → RowLines (length (masks (take end ws))) t
   taken-lines ws t l h e = subst (λ (m : ℕ). RowLines m t) (sym (taken-rows ws l)) (record { most = h; right = e })
 
-  module _ (xs ys : List ℕ) (e : length xs ≡ n) where
-    pub front-fits : n ≤ length (xs ++ ys)
+  module _ (xs ys : List ℕ) (e : length xs ≡ end) where
+    pub front-fits : end ≤ length (xs ++ ys)
     front-fits = omega (arith, length-append xs ys)
 
-    front-rows : take n (xs ++ ys) ≡ xs
-    front-rows = take-at xs ys n e
+    front-rows : take end (xs ++ ys) ≡ xs
+    front-rows = take-at xs ys end e
 
-    pub front-length : n ≡ length (take n (xs ++ ys))
+    pub front-length : end ≡ length (take end (xs ++ ys))
     front-length = sym (ap length front-rows ∙ e)
 
-    pub front-judged : (g : List ℕ) → masks xs ≡ g → firstOf (graphCauses (masks (take n (xs ++ ys)))) passed ≡ firstOf (graphCauses g) passed
+    pub front-judged : (g : List ℕ) → masks xs ≡ g → firstOf (graphCauses (masks (take end (xs ++ ys)))) passed ≡ firstOf (graphCauses g) passed
     front-judged g h = ap (λ (ws : List ℕ). firstOf (graphCauses (masks ws)) passed) front-rows ∙ ap (λ (m : List ℕ). firstOf (graphCauses m) passed) h
 
-    pub front-sized : 1 ≤ n → n ≤ width → Sized (masks (take n (xs ++ ys)))
+    pub front-sized : 1 ≤ n → n ≤ width → Sized (masks (take end (xs ++ ys)))
     front-sized l h =
-        let long : length (masks (take n (xs ++ ys))) ≡ n = sym (count-masks (take n (xs ++ ys))) ∙ sym front-length in
+        let long : length (masks (take end (xs ++ ys))) ≡ n = ap (λ (ws : List ℕ). length (masks ws)) front-rows ∙ omega (arith, at, e, count-masks xs) in
         record { some = omega arith; most = omega arith }
+
+-- a blank table has a row for each vertex
+pub table-rows : (n : ℕ) → n ≤ width → n ≤ length (masks (blank (width * perSet)))
+table-rows n l = omega (arith, ap length (blank-masks width), length-replicate {A = ℕ} width 0)

@@ -1,14 +1,15 @@
 -- Reading: from what the code found to the reply and the rows of the definition.
-use Prim.Native.Nat.{ℕ, _-_, _≤_, _<_}
+use Prim.Native.Nat.{ℕ, _-_, _*_, _≤_, _<_}
 use native.Mathlib.Omega.{arith}
 use mathlib.Core.Path.{_≡_, sym, ap, ap₂, _∙_, subst}
 use mathlib.Core.List.{List, [], _∷_, _++_}
 use borrow.Author.Tests.{lt-ltb, le-ltb, not-false}
 use borrow.Rule.Slice.PartAt.{part-to-end}
 use lib.ListN.{length, take, drop}
+use lib.Seq.{length-take-le}
 use Rattle.sets.specs.RangeLaws.{true-holds}
-use Rattle.sets.specs.Words.{width, masks}
-use Rattle.sets.specs.Words.Operations.{count-masks, drop-masks, append-masks}
+use Rattle.sets.specs.Words.{perSet, width, masks}
+use Rattle.sets.specs.Words.Operations.{offset-fits, drop-masks, append-masks}
 use Rattle.judging.specs.Request.{asked}
 use Rattle.judging.specs.Refusal.{Reply, answered, firstOf, mostVertices, vertexCause, slackCause, floorCause}
 use Rattle.judging.specs.Calls.{passed, checkedReply, numberOf, valueOf, refusal}
@@ -73,10 +74,11 @@ module _ (n : ℕ) (request : Request) (t : List ℕ) (h : HeadingRead n (asked 
   pub vertices-read : (1 ≤ n) × (n ≤ width)
   unfolding headingCauses vertexCause
   vertices-read =
-      subst (λ (m : ℕ). (1 ≤ m) × (m ≤ width)) (ap (λ (x : Heading). x .vertices) (h .says))
-      (within-range 1 mostVertices (vertexField t)
-      (passed-head (vertexCause (vertexField t)) (slackCause (slackField t) ∷ floorCause (slackField t) (floorField t) ∷ [])
-      (passed-tail (headingCause t) (vertexCause (vertexField t) ∷ slackCause (slackField t) ∷ floorCause (slackField t) (floorField t) ∷ []) (h .passes))))
+      let after = slackCause (slackField t) ∷ floorCause (slackField t) (floorField t) ∷ [] in
+      let r =
+      within-range 1 mostVertices (vertexField t)
+      (passed-head (vertexCause (vertexField t)) after (passed-tail (headingCause t) (vertexCause (vertexField t) ∷ after) (h .passes))) in
+      subst (λ (m : ℕ). (1 ≤ m) × (m ≤ width)) (ap (λ (x : Heading). x .vertices) (h .says)) (r .0, omega (arith, r .1))
 
   -- what the read then stores and answers
   abbrev found : Reply Sheet
@@ -113,14 +115,16 @@ module _ (n : ℕ) (request : Request) (t : List ℕ) (h : HeadingRead n (asked 
       room-refused l =
           read-refused t (masks ws) (Room n) (room-left ∙ first-holds (roomCause (length (masks ws)) n) [] found (lt-ltb (length (masks ws)) n l))
 
-      -- what the code stores: the rows of the lines, and behind them what stood there
-      pub rows-read : (last : List ℕ) → n ≤ length ws
-          → masks last ≡ numbers rowDigits (length (masks (take n ws))) (take (length t - headingLength) (drop headingLength t))
-          → ReadSheet t (masks ws) (masks (last ++ drop n ws)) (Read n request)
+      -- what the code stores up to the word `end`: the rows of the lines, and behind them what stood there
+      pub rows-read : (end : ℕ) (last : List ℕ) → end ≡ n * perSet → n ≤ length (masks ws) → length last ≡ length (take end ws)
+          → masks last ≡ numbers rowDigits (length (masks (take end ws))) (take (length t - headingLength) (drop headingLength t))
+          → ReadSheet t (masks ws) (masks (last ++ drop end ws)) (Read n request)
       unfolding roomCause firstOf
-      rows-read last l s =
-          read-answered t (masks ws) (masks (last ++ drop n ws)) n request (numbers rowDigits n (body t))
-          (room-left ∙ first-skips (roomCause (length (masks ws)) n) [] found (le-ltb (length (masks ws)) n (omega (arith, count-masks ws))))
+      rows-read end last at l long s =
+          let whole : length last ≡ n * perSet = long ∙ length-take-le end ws (offset-fits n end ws at l) ∙ at in
+          read-answered t (masks ws) (masks (last ++ drop end ws)) n request (numbers rowDigits n (body t))
+          (room-left ∙ first-skips (roomCause (length (masks ws)) n) [] found (le-ltb (length (masks ws)) n l))
           (length-numbers rowDigits n (body t))
-          (append-masks last (drop n ws)
-          ∙ ap₂ _++_ (s ∙ ap₂ (λ (m : ℕ) (u : List ℕ). numbers rowDigits m u) (taken-rows n ws l) (part-to-end t headingLength)) (drop-masks n ws))
+          (append-masks n last (drop end ws) whole
+          ∙ ap₂ _++_ (s ∙ ap₂ (λ (m : ℕ) (u : List ℕ). numbers rowDigits m u) (taken-rows n end at ws l) (part-to-end t headingLength))
+          (ap (λ (m : ℕ). masks (drop m ws)) at ∙ drop-masks n ws))

@@ -3,21 +3,24 @@ ghost use mathlib.Core.Path.{_≡_};
 ghost use mathlib.Core.List.{_++_};
 ghost use Prim.Native.Nat.{_*_, _≤_};
 ghost use lib.ListN.{length, drop};
-ghost use Rattle.sets.specs.Words.{width, masks};
+ghost use Rattle.sets.specs.Words.{width, mask, masks};
 ghost use Rattle.judging.specs.Refusal.{firstOf};
 ghost use Rattle.judging.specs.Calls.{passed, checkedReply};
+ghost use Rattle.sheets.specs.Digits.{number};
 ghost use Rattle.sheets.specs.Lines.{lines, rightLines, numbers};
 ghost use Rattle.sheets.specs.Sheet.{rowDigits, rowLength, bodyCauses};
-ghost use Rattle.sheets.specs.Setting.{RowLines, RowRoom};
+ghost use Rattle.sheets.specs.Setting.{Readable, RowLines, RowRoom};
 use crate::digits;
 use crate::lines;
 use judging::Checked;
 use judging::Refusal;
 use judging::check;
+use sets::Set;
 
-const ROW_DIGITS: usize = 16;
+// A digit for each four vertices that a row can have, and the byte that ends the line.
+const ROW_DIGITS: usize = sets::WIDTH / 4;
 
-pub const ROW_LENGTH: usize = 17;
+pub const ROW_LENGTH: usize = ROW_DIGITS + 1;
 
 // Of n rows, how many stand before the first wrong line.
 fn right_rows(text: &[u8], n: usize) -> usize
@@ -34,6 +37,14 @@ fn right_rows(text: &[u8], n: usize) -> usize
     a
 }
 
+// The row that the digits of the text are.
+fn read_row(text: &[u8]) -> Set
+    requires { ⌜ Readable (now text) ⌝ }
+    ensures { λ r. ⌜ mask r ≡ number (now (text .entry)) ⌝ }
+{
+    sets::of_word(digits::number(text))
+}
+
 // Stores the rows of the text, as many as there is room for.
 pub fn store_rows(text: &[u8], rows: &mut [u64])
     requires { ⌜ RowLines (length (masks (now rows))) (now text) ⌝ }
@@ -44,7 +55,7 @@ pub fn store_rows(text: &[u8], rows: &mut [u64])
     while a < n {
         let at = a * ROW_LENGTH;
         let end = at + ROW_DIGITS;
-        sets::put(rows, a, digits::number(&text[at..end]));
+        sets::put(rows, a, read_row(&text[at..end]));
         a += 1;
     }
 }
@@ -59,7 +70,7 @@ pub fn write_rows(rows: &[u64], text: &mut [u8])
     while a < n {
         let at = a * ROW_LENGTH;
         let end = at + ROW_LENGTH;
-        lines::write_line(&mut text[at..end], sets::get(rows, a));
+        lines::write_row(&mut text[at..end], sets::get(rows, a));
         a += 1;
     }
 }
@@ -76,7 +87,8 @@ pub fn check_body(text: &[u8], n: usize) -> Checked
     if n * ROW_LENGTH < text.len() {
         return Checked::Failed(Refusal::Line(n + 2));
     }
-    let mut table = [0u64; check::MOST_VERTICES];
-    store_rows(text, &mut table[..n]);
-    check::check_edges(&table[..n])
+    let mut table = [0u64; sets::TABLE];
+    let end = sets::offset(&table, n);
+    store_rows(text, &mut table[..end]);
+    check::check_edges(&table[..end])
 }

@@ -39,7 +39,8 @@ fn read_rows(text: &[u8], n: usize, request: Request, rows: &mut [u64]) -> Sheet
     if sets::count(rows) < n {
         return SheetRead::Refused(Refusal::Room(n));
     }
-    body::store_rows(below, &mut rows[..n]);
+    let end = sets::offset(rows, n);
+    body::store_rows(below, &mut rows[..end]);
     SheetRead::Read {
         vertices: n,
         request,

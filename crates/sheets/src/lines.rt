@@ -2,9 +2,11 @@
 ghost use mathlib.Core.Path.{_≡_};
 ghost use Prim.Native.Nat.{_+_, _-_, _^_, _<_};
 ghost use lib.ListN.{length, drop};
+ghost use Rattle.sets.specs.Words.{mask};
 ghost use Rattle.sheets.specs.Digits.{digits};
 ghost use Rattle.sheets.specs.Lines.{line, isLine};
 use crate::digits;
+use sets::Set;
 
 pub(crate) const NEWLINE: u8 = 10;
 
@@ -31,4 +33,12 @@ pub fn write_line(text: &mut [u8], x: u64)
     let end = text.len() - 1;
     digits::write(&mut text[..end], x);
     text[end] = NEWLINE;
+}
+
+// Fills the text with the last digits of the mask of s and the byte that ends a line: a row, or a set of a list.
+pub fn write_row(text: &mut [u8], s: Set)
+    requires { ⌜ 0 < length (now text) ⌝ }
+    ensures { λ _. ⌜ now (text .exit) ≡ line (digits (length (now (text .entry)) - 1) (mask s)) ⌝ }
+{
+    write_line(text, sets::word(s, 0));
 }

@@ -100,8 +100,8 @@ fn keep_maximal(rows: &[u64], k: usize, q: usize, slots: &mut [u64], kept: usize
 pub fn list(rows: &[u64], k: usize, q: usize, slots: &mut [u64]) -> usize {
     let mut m = 0;
     let mut s = 0u64;
-    while s < MASKS && is_inside(rows, s) {
-        m = keep_maximal(rows, k, q, slots, m, s);
+    while s < MASKS && is_inside(rows, sets::of_word(s)) {
+        m = keep_maximal(rows, k, q, slots, m, sets::of_word(s));
         s += 1;
     }
     m

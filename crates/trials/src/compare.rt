@@ -19,8 +19,14 @@ const MOST_FLOOR: usize = 64;
 // More than a graph of 16 vertices has maximal k-plexes.
 const MASKS: usize = 16384;
 
+const MASK_WORDS: usize = MASKS * sets::WORDS;
+
 // How many slots more than needed.
 const EXTRA_SLOTS: usize = 3;
+
+const SLOT_WORDS: usize = (MASKS + EXTRA_SLOTS) * sets::WORDS;
+
+const ROW_WORDS: usize = MOST_VERTICES * sets::WORDS;
 
 // Is it right to refuse m masks to these slots?
 fn rightly_refused(f: Refusal, m: usize, slots: &[u64]) -> bool {
@@ -51,10 +57,11 @@ fn agrees_with(
     slots: &mut [u64],
     room: usize,
 ) -> bool {
-    if slots.len() < room {
+    if sets::count(slots) < room {
         return false;
     }
-    let right = agrees(rows, request, masks, m, &mut slots[0..room]);
+    let end = words::end(slots, room);
+    let right = agrees(rows, request, masks, m, &mut slots[0..end]);
     if !right {
         sheet::print(rows, request);
     }
@@ -97,8 +104,8 @@ fn floors(rows: &[u64], k: usize, masks: &mut [u64], slots: &mut [u64]) -> Tally
 
 // One graph: every slack.
 fn graph(rows: &[u64]) -> Tally {
-    let mut masks = [0u64; MASKS];
-    let mut slots = [0u64; MASKS + EXTRA_SLOTS];
+    let mut masks = [0u64; MASK_WORDS];
+    let mut slots = [0u64; SLOT_WORDS];
     slacks(rows, &mut masks, &mut slots)
 }
 
@@ -120,11 +127,12 @@ fn built(rows: &mut [u64], family: usize, variant: usize) -> Tally {
 
 // The same with n rows.
 fn sized(family: usize, n: usize, variant: usize) -> Tally {
-    let mut rows = [0u64; MOST_VERTICES];
-    if MOST_VERTICES < n {
+    let mut rows = [0u64; ROW_WORDS];
+    if sets::count(&rows) < n {
         return tally::none();
     }
-    built(&mut rows[0..n], family, variant)
+    let end = words::end(&rows, n);
+    built(&mut rows[0..end], family, variant)
 }
 
 // All variants with n vertices.

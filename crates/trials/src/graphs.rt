@@ -16,7 +16,7 @@ pub const MULTIPARTITE: usize = 5;
 pub const UNION: usize = 6;
 
 // No vertex has this number.
-pub const NOWHERE: usize = 64;
+pub const NOWHERE: usize = sets::WIDTH;
 
 // A pair of vertices for each number below this.
 const PAIRS: usize = 4096;

@@ -41,8 +41,8 @@ fn faulty(
     value: usize,
     after: u64,
 ) -> bool {
-    let mut rows = [0u64; 5];
-    let mut slots = [0u64; 4];
+    let mut rows = [0u64; 5 * sets::WORDS];
+    let mut slots = [0u64; 4 * sets::WORDS];
     graphs::build_faulty(&mut rows, own, far, one);
     answers(
         &rows,
@@ -61,13 +61,14 @@ fn sound(k: usize, q: usize, number: usize) -> bool {
 
 // n rows that are all wrong, and a request that is.
 fn sized(n: usize, number: usize) -> bool {
-    let rows = [GARBAGE; 65];
-    let mut slots = [0u64; 4];
-    if 65 < n {
+    let rows = [GARBAGE; 65 * sets::WORDS];
+    let mut slots = [0u64; 4 * sets::WORDS];
+    if sets::count(&rows) < n {
         return false;
     }
+    let end = words::end(&rows, n);
     answers(
-        &rows[0..n],
+        &rows[0..end],
         Request {
             slack: 0,
             floor: 65,
@@ -81,7 +82,7 @@ fn sized(n: usize, number: usize) -> bool {
 
 // The ring and no slot.
 fn no_slots(q: usize, number: usize, value: usize) -> bool {
-    let mut rows = [0u64; 5];
+    let mut rows = [0u64; 5 * sets::WORDS];
     let mut slots = [0u64; 0];
     graphs::build_faulty(&mut rows, NOWHERE, NOWHERE, NOWHERE);
     answers(
@@ -94,13 +95,16 @@ fn no_slots(q: usize, number: usize, value: usize) -> bool {
     )
 }
 
-// 64 vertices all adjacent: one mask, sixteen F, and the second slot keeps what it held.
+// 64 vertices all adjacent: one set, of all of them, and the second slot keeps what it held.
 fn all_of_64(k: usize, q: usize) -> bool {
-    let mut rows = [0u64; 64];
-    let mut slots = [GARBAGE; 2];
+    let mut rows = [0u64; sets::TABLE];
+    let mut slots = [0u64; 2 * sets::WORDS];
+    words::fill(&mut slots, GARBAGE);
     graphs::build(&mut rows, graphs::COMPLETE, 0);
     let found = search::list(&rows, Request { slack: k, floor: q }, &mut slots);
-    gives(found, 0, 1) && words::at(&slots, 0) == u64::MAX && words::at(&slots, 1) == GARBAGE
+    gives(found, 0, 1)
+        && words::is(words::at(&slots, 0), u64::MAX)
+        && words::is(words::at(&slots, 1), GARBAGE)
 }
 
 pub fn ranges() -> Tally {

@@ -9,7 +9,6 @@ use bounds::ReachFound;
 use judging::Judged;
 use judging::Refusal;
 use judging::Request;
-use sets::Set;
 
 // Is the refusal this number and this value?
 fn refused(f: Refusal, number: usize, value: usize) -> bool {
@@ -44,16 +43,17 @@ fn bound_gives(found: BoundFound, number: usize, value: usize) -> bool {
     }
 }
 
-// Is the set s judged so, as a plex and as a maximal plex?
-fn judge(own: usize, one: usize, k: usize, s: Set, number: usize, value: usize) -> bool {
-    let mut rows = [0u64; 5];
+// Is the set of the mask judged so, as a plex and as a maximal plex?
+fn judge(own: usize, one: usize, k: usize, mask: u64, number: usize, value: usize) -> bool {
+    let s = sets::of_word(mask);
+    let mut rows = [0u64; 5 * sets::WORDS];
     graphs::build_faulty(&mut rows, own, NOWHERE, one);
     judge_gives(judging::judge_plex(&rows, k, s), number, value)
         && judge_gives(judging::judge_maximal(&rows, k, s), number, value)
 }
 
 fn core(own: usize, one: usize, k: usize, q: usize, number: usize, value: usize) -> bool {
-    let mut rows = [0u64; 5];
+    let mut rows = [0u64; 5 * sets::WORDS];
     graphs::build_faulty(&mut rows, own, NOWHERE, one);
     core_gives(
         bounds::find_core(&rows, Request { slack: k, floor: q }),
@@ -63,33 +63,36 @@ fn core(own: usize, one: usize, k: usize, q: usize, number: usize, value: usize)
 }
 
 fn reach(own: usize, one: usize, v: usize, number: usize, value: usize) -> bool {
-    let mut rows = [0u64; 5];
+    let mut rows = [0u64; 5 * sets::WORDS];
     graphs::build_faulty(&mut rows, own, NOWHERE, one);
     reach_gives(bounds::find_reach(&rows, v), number, value)
 }
 
-// Do both bounds answer so?
+// Do both bounds answer so for the sets of the masks s and c?
 fn bound(
     own: usize,
     one: usize,
     k: usize,
-    s: Set,
-    c: Set,
+    s: u64,
+    c: u64,
     v: usize,
     number: usize,
     value: usize,
 ) -> bool {
-    let mut rows = [0u64; 5];
+    let mut rows = [0u64; 5 * sets::WORDS];
     graphs::build_faulty(&mut rows, own, NOWHERE, one);
-    bound_gives(bounds::first_bound(&rows, k, s, c, v), number, value)
-        && bound_gives(bounds::second_bound(&rows, k, s, c, v), number, value)
+    let held = sets::of_word(s);
+    let free = sets::of_word(c);
+    bound_gives(bounds::first_bound(&rows, k, held, free, v), number, value)
+        && bound_gives(bounds::second_bound(&rows, k, held, free, v), number, value)
 }
 
 // No row.
 fn no_rows() -> bool {
     let rows = [0u64; 0];
-    judge_gives(judging::judge_plex(&rows, 0, 32), 1, 0)
-        && judge_gives(judging::judge_maximal(&rows, 0, 32), 1, 0)
+    let s = sets::of_word(32);
+    judge_gives(judging::judge_plex(&rows, 0, s), 1, 0)
+        && judge_gives(judging::judge_maximal(&rows, 0, s), 1, 0)
         && core_gives(
             bounds::find_core(
                 &rows,
@@ -102,8 +105,8 @@ fn no_rows() -> bool {
             0,
         )
         && reach_gives(bounds::find_reach(&rows, 0), 1, 0)
-        && bound_gives(bounds::first_bound(&rows, 0, 32, 32, 5), 1, 0)
-        && bound_gives(bounds::second_bound(&rows, 0, 32, 32, 5), 1, 0)
+        && bound_gives(bounds::first_bound(&rows, 0, s, s, 5), 1, 0)
+        && bound_gives(bounds::second_bound(&rows, 0, s, s, 5), 1, 0)
 }
 
 // 1, 2, 4, 5, 7

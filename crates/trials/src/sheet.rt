@@ -75,7 +75,7 @@ fn head(text: &mut [u8], n: usize, k: usize, q: usize) {
 
 // The sheet of the ring of five vertices, slack 2, floor 3.
 fn ring(text: &mut [u8]) -> SheetWritten {
-    let mut rows = [0u64; 5];
+    let mut rows = [0u64; 5 * sets::WORDS];
     graphs::build(&mut rows, graphs::RING, 0);
     sheets::write_sheet(&rows, Request { slack: 2, floor: 3 }, text)
 }
@@ -104,11 +104,12 @@ fn reads_front(
     number: usize,
     value: usize,
 ) -> bool {
-    if text.len() < length || rows.len() < room {
+    if text.len() < length || sets::count(rows) < room {
         return false;
     }
     let from = if number == 0 { 5usize } else { 0usize };
-    reads(&text[0..length], &mut rows[0..room], number, value, from)
+    let end = words::end(rows, room);
+    reads(&text[0..length], &mut rows[0..end], number, value, from)
 }
 
 // The ring's sheet with another line 1, another byte at the position `at`, and cut to the length, is read into so many rows.
@@ -124,7 +125,7 @@ fn damaged(
     value: usize,
 ) -> bool {
     let mut text = [OLD; NOWHERE];
-    let mut rows = [0u64; 6];
+    let mut rows = [0u64; 6 * sets::WORDS];
     ring(&mut text);
     head(&mut text, n, k, q);
     put(&mut text, at, b);
@@ -201,7 +202,7 @@ fn faulty(
     value: usize,
 ) -> bool {
     let mut text = [0u8; NOWHERE];
-    let mut rows = [0u64; 5];
+    let mut rows = [0u64; 5 * sets::WORDS];
     graphs::build_faulty(&mut rows, own, graphs::NOWHERE, one);
     if NOWHERE < room {
         return false;

@@ -1,37 +1,55 @@
-// Buffers of words. Nothing lies beyond the end of one: a word there is 0, and what is stored there is lost.
+// Buffers of sets. Nothing lies beyond the end of one: a set there is empty, and what is stored there is lost.
+ghost use Prim.Native.Nat.{_≤_};
+ghost use lib.ListN.{length};
+use sets::Set;
 
-// What slots and rows hold before a call.
+// The mask of what slots and rows hold before a call.
 pub const GARBAGE: u64 = 14627333968358193854;
 
-pub fn at(words: &[u64], i: usize) -> u64 {
+pub fn at(words: &[u64], i: usize) -> Set {
     if i < sets::count(words) {
         return sets::get(words, i);
     }
-    0
+    sets::empty()
 }
 
-pub fn store(words: &mut [u64], i: usize, x: u64) {
+pub fn store(words: &mut [u64], i: usize, x: Set) {
     if i < sets::count(words) {
         sets::put(words, i, x);
     }
 }
 
-// Every word becomes x.
+// The word at which position n starts, or the end where there are fewer sets.
+pub fn end(words: &[u64], n: usize) -> usize
+    ensures { λ r. ⌜ r ≤ length (now (words .entry)) ⌝ }
+{
+    if sets::count(words) < n {
+        return words.len();
+    }
+    sets::offset(words, n)
+}
+
+// Is the mask of s x?
+pub fn is(s: Set, x: u64) -> bool {
+    sets::same(s, sets::of_word(x))
+}
+
+// Every set becomes that of the mask x.
 pub fn fill(words: &mut [u64], x: u64) {
     let n = sets::count(words);
     let mut i = 0;
     while i < n {
-        store(words, i, x);
+        store(words, i, sets::of_word(x));
         i += 1;
     }
 }
 
-// Is every word from position `from` on x?
+// Is x the mask of every set from position `from` on?
 pub fn all_are(words: &[u64], from: usize, x: u64) -> bool {
     let n = sets::count(words);
     let mut i = from;
     while i < n {
-        if at(words, i) != x {
+        if !is(at(words, i), x) {
             return false;
         }
         i += 1;
@@ -39,14 +57,14 @@ pub fn all_are(words: &[u64], from: usize, x: u64) -> bool {
     true
 }
 
-// Have both m words, and are these the same?
+// Have both m sets, and are these the same?
 pub fn same_front(a: &[u64], b: &[u64], m: usize) -> bool {
     if sets::count(a) < m || sets::count(b) < m {
         return false;
     }
     let mut i = 0;
     while i < m {
-        if at(a, i) != at(b, i) {
+        if !sets::same(at(a, i), at(b, i)) {
             return false;
         }
         i += 1;

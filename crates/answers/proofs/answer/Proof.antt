@@ -1,13 +1,14 @@
 -- `answers::answer` meets its contract: the graph that was read is listed, and a text that is no sheet is refused.
-use Prim.Native.Nat.{ℕ, _≤_}
+use Prim.Native.Nat.{ℕ, _*_, _≤_}
 use mathlib.Core.Path.{_≡_, sym, ap, _∙_}
 use mathlib.Core.List.{List}
 use denote.Ref.{now}
 use lib.Dec.{lit≤}
-use lib.ListN.{length, replicate}
+use lib.ListN.{length}
 use lib.Seq.{length-take-le}
-use Rattle.sets.specs.Words.{width, masks}
-use Rattle.sets.specs.Words.Operations.{count-masks}
+use Rattle.sets.specs.Words.{perSet, width, masks}
+use Rattle.sets.specs.Words.Groups.{blank}
+use Rattle.sets.specs.Words.Operations.{offset-fits, blank-masks}
 use Rattle.judging.specs.Request.{Request, asked}
 use Rattle.judging.specs.Refusal.{answered, mostVertices}
 use Rattle.sheets.specs.Sheet.{reading, rowsAfter}
@@ -40,30 +41,42 @@ ask c = asked (c .before .read .given .0 .1 .0)
 abbrev words : tie.After-known-told → List ℕ
 words c = c .before .before .before .before .read-sheet .last .1 .0
 
--- the array's length is the number of rows that the definition has room for
-room : length (masks (replicate width 0)) ≡ mostVertices
-room = sym (count-masks (replicate width 0))
+-- the rows before they are read: as many as the definition has room for
+abbrev table : List ℕ
+table = blank (width * perSet)
+
+room : length (masks table) ≡ mostVertices
+room = ap length (blank-masks width)
 
 gave : (c : tie.After-known-told) → answered 0 (heading (n c) (ask c)) ≡ headingOf (reading (now (start c .args .text)) mostVertices)
 gave c =
     sym (ap readReply (c .before .read .given .1)) ∙ c .before .before .before .before .read-sheet .ensures .reply
     ∙ ap (λ (m : ℕ). headingOf (reading (now (start c .args .text)) m)) room
 
-stored : (c : tie.After-known-told) → masks (words c) ≡ rowsAfter (reading (now (start c .args .text)) mostVertices) (masks (replicate width 0))
+stored : (c : tie.After-known-told) → masks (words c) ≡ rowsAfter (reading (now (start c .args .text)) mostVertices) (masks table)
 stored c =
     c .before .before .before .before .read-sheet .ensures .rows
-    ∙ ap (λ (m : ℕ). rowsAfter (reading (now (start c .args .text)) m) (masks (replicate width 0))) room
+    ∙ ap (λ (m : ℕ). rowsAfter (reading (now (start c .args .text)) m) (masks table)) room
 
-fits : (c : tie.After-known-told) → n c ≤ length (words c)
+fits : (c : tie.After-known-told) → n c ≤ length (masks (words c))
 fits c =
     let s = start c .args in
-    rows-fit (now (s .text)) (n c) (ask c) (masks (replicate width 0)) (words c) (gave c) (stored c)
+    rows-fit (now (s .text)) (n c) (ask c) (masks table) (words c) (gave c) (stored c)
+
+slice-aggregate-offset : tie.Need-slice-aggregate-offset
+slice-aggregate-offset c = search needs
+
+offset-requires : tie.Need-offset-requires
+offset-requires c κs = fits (c .before)
+
+end-fits : (c : tie.After-offset) → c .offset .result ≤ length (words (c .before .before))
+end-fits c = let at = c .before .before in offset-fits (n at) (c .offset .result) (words at) (c .offset .ensures) (fits at)
 
 array-share-prefix-rows : tie.Need-array-share-prefix-rows
-array-share-prefix-rows c = fits c
+array-share-prefix-rows c = end-fits c
 
 slice-aggregate-list-out : tie.Need-slice-aggregate-list-out
-slice-aggregate-list-out c = sym (length-take-le (n (c .before)) (words (c .before)) (fits (c .before)))
+slice-aggregate-list-out c = sym (length-take-le (c .before .offset .result) (words (c .before .before .before)) (end-fits (c .before)))
 
 list-out-requires : tie.Need-list-out-requires
 list-out-requires c κs = enough-room _ _ 4096 69649 (c .before .list-out-arg .given .0 .1) (c .list-out-arg2 .given .0 .1) (lit≤ tt) (lit≤ tt)
@@ -76,11 +89,12 @@ write-refusal-requires c κs = omega (arith, c .write-refusal-arg .given .0 .1)
 
 returns : tie.Need-returns
 returns c =
-    let at = c .before .before .before .before in
+    let cut = c .before .before .before .before .offset in
+    let at = c .before .before .before .before .before .before in
     let s = start at .args in
     let listed = c .list-out in
-    answer-listed (now (s .text)) (n at) (ask at) (masks (replicate width 0)) (words at) (gave at) (stored at)
-    (masks (now (s .slots))) (masks (listed .last .1 .1 .0)) (now (s .out)) (listed .last .1 .1 .1 .0) (listed .result) (listed .ensures)
+    answer-listed (now (s .text)) (n at) (ask at) (masks table) (words at) (gave at) (stored at) (cut .result)
+    (masks (now (s .slots))) (masks (listed .last .1 .1 .0)) (now (s .out)) (listed .last .1 .1 .1 .0) (listed .result) (cut .ensures) (listed .ensures)
 
 returns-2 : tie.Need-returns-2
 returns-2 c =
@@ -98,6 +112,8 @@ answer-spec =
     slice-aggregate-read-sheet
     read-sheet-requires
     enum-known-read
+    slice-aggregate-offset
+    offset-requires
     array-share-prefix-rows
     slice-aggregate-list-out
     list-out-requires

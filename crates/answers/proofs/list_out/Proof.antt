@@ -7,6 +7,7 @@ use denote.Ref.{now}
 use lib.ListN.{length}
 use lib.Seq.{length-take-le}
 use Rattle.sets.specs.Words.{masks}
+use Rattle.sets.specs.Words.Operations.{offset-fits}
 use Rattle.judging.specs.Request.{asked}
 use Rattle.judging.specs.Refusal.{answered}
 use Rattle.search.specs.Calls.{listReply, listFoundReply}
@@ -34,25 +35,33 @@ words c = c .before .before .before .before .before .list .last .1 .1 .0
 gave : (c : tie.After-known-told) → answered (m c) tt ≡ listReply (masks (now (start c .args .rows))) (asked (start c .args .request)) (length (masks (now (start c .args .slots))))
 gave c = sym (ap listFoundReply (c .before .found .given .1)) ∙ c .before .before .before .before .before .list .ensures .reply
 
-fits : (c : tie.After-known-told) → m c ≤ length (words c)
+fits : (c : tie.After-known-told) → m c ≤ length (masks (words c))
 fits c =
     let s = start c in
     listed-fits (masks (now (s .args .rows))) (asked (s .args .request)) (masks (now (s .args .slots))) (m c) (gave c) (words c) (c .before .before .before .before .before .list .ensures .slots)
 
+offset-requires : tie.Need-offset-requires
+offset-requires c κs = fits (c .before)
+
+end-fits : (c : tie.After-offset) → c .offset .result ≤ length (words (c .before .before))
+end-fits c = let at = c .before .before in offset-fits (m at) (c .offset .result) (words at) (c .offset .ensures) (fits at)
+
 slice-reshare-prefix-write-list : tie.Need-slice-reshare-prefix-write-list
-slice-reshare-prefix-write-list c = fits c
+slice-reshare-prefix-write-list c = end-fits c
 
 slice-aggregate-write-list : tie.Need-slice-aggregate-write-list
-slice-aggregate-write-list c = sym (length-take-le (m (c .before)) (words (c .before)) (fits (c .before)))
+slice-aggregate-write-list c = sym (length-take-le (c .before .offset .result) (words (c .before .before .before)) (end-fits (c .before)))
 
 write-list-requires : tie.Need-write-list-requires
 write-list-requires c κs =
-    let at = c .before .before in
+    let cut = c .before .before .offset in
+    let at = c .before .before .before .before in
     let s = start at in
     omega (
       arith,
       s .pre .list,
-      listed-few (masks (now (s .args .rows))) (asked (s .args .request)) (masks (now (s .args .slots))) (m at) (gave at) (words at) (at .before .before .before .before .before .list .ensures .slots),
+      listed-few (masks (now (s .args .rows))) (asked (s .args .request)) (masks (now (s .args .slots))) (m at) (gave at)
+          (words at) (at .before .before .before .before .before .list .ensures .slots) (cut .result) (cut .ensures),
     )
 
 enum-known-found-2 : tie.Need-enum-known-found-2
@@ -69,10 +78,12 @@ same-length-2 c = search needs
 
 returns : tie.Need-returns
 returns c =
-    let at = c .before .before .before .before .before in
+    let cut = c .before .before .before .before .before .offset in
+    let at = c .before .before .before .before .before .before .before in
     let s = start at in
     let written = c .before .before .write-list in
-    listed-out (masks (now (s .args .rows))) (asked (s .args .request)) (masks (now (s .args .slots))) (m at) (gave at) (words at) (at .before .before .before .before .before .list .ensures .slots)
+    listed-out (masks (now (s .args .rows))) (asked (s .args .request)) (masks (now (s .args .slots))) (m at) (gave at)
+    (words at) (at .before .before .before .before .before .list .ensures .slots) (cut .result) (cut .ensures)
     (now (s .args .out)) (written .last .1 .0) (written .result) (written .ensures)
 
 same-length-3 : tie.Need-same-length-3
@@ -96,6 +107,7 @@ list-out-spec =
     (tie.spec
     list-requires
     enum-known-found
+    offset-requires
     slice-reshare-prefix-write-list
     slice-aggregate-write-list
     write-list-requires

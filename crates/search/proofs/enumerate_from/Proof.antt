@@ -16,8 +16,8 @@ common-requires c κs = search needs
 size-requires : tie.Need-size-requires
 size-requires c κs = search needs
 
-take-requires : tie.Need-take-requires
-take-requires c κs =
+start-requires : tie.Need-start-requires
+start-requires c κs =
     let start = c .before .before .before .before .before .before .before in
     taking-one _ _ _ _ _ _ _ _ (omega arith) (start-taking _ _ _ _ _ _ (start .pre) _ _ (omega arith) (c .before .size .ensures .0) (c .before .before .common .ensures))
 
@@ -25,7 +25,7 @@ same-length : tie.Need-same-length
 same-length c = search needs
 
 returns : tie.Need-returns
-returns c = adds-one _ _ _ _ _ _ _ _ _ (omega arith) (c .before .before .take .ensures)
+returns c = adds-one _ _ _ _ _ _ _ _ _ (omega arith) (c .before .before .start .ensures)
 
 mul-fill : tie.Need-mul-fill
 mul-fill c = search needs
@@ -66,7 +66,7 @@ enumerate-from-spec =
     (tie.spec
     common-requires
     size-requires
-    take-requires
+    start-requires
     same-length
     returns
     mul-fill

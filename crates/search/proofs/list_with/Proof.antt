@@ -1,14 +1,14 @@
 -- `search::list_with` meets its contract: a refused request leaves the slots, and else what was added, put in order, is the list.
 use Prim.Native.Nat.{ℕ, _≤_, _<_}
 use native.Mathlib.Omega.{arith}
-use mathlib.Core.Path.{sym, ap, subst, _∙_}
+use mathlib.Core.Path.{_≡_, sym, ap, subst, _∙_}
 use mathlib.Core.List.{List}
 use borrow.Author.Needs.{needs}
 use denote.Ref.{now}
 use lib.ListN.{length, replicate}
 use lib.Seq.{length-front, length-take-le}
 use Rattle.sets.specs.Words.{masks}
-use Rattle.sets.specs.Words.Operations.{count-masks, take-masks}
+use Rattle.sets.specs.Words.Operations.{offset-fits}
 use Rattle.judging.specs.Request.{asked}
 use Rattle.judging.specs.Calls.{numberOf, valueOf, checkedReply, requestCheck}
 use Rattle.judging.specs.RefusalLaws.{first-append}
@@ -16,7 +16,7 @@ use Rattle.judging.specs.CallLaws.{check-failed, none-holds}
 use Rattle.search.specs.Calls.{listReply}
 use Rattle.lists.specs.Order.{Sorts}
 use Rattle.search.specs.TopLaws.{accepted, refused-slots, list-long, list-fits, list-slots, list-short, list-cleared}
-use Rattle.lists.specs.PartLaws.{back-before}
+use Rattle.lists.specs.PartLaws.{lent-before, back-before}
 use Rattle.search.proofs.list_with.Statement.{statement}
 use Rattle.search.proofs.list_with.Tie as tie
 
@@ -66,29 +66,47 @@ returns-2 c =
 fits : (c : tie.Else1) → c .before .before .before .before .before .enumerate .result ≤ length (masks (c .before .before .before .before .before .enumerate .last .1 .1 .1 .1 .0))
 fits c = omega (arith, c .if1 .left, c .before .count .ensures)
 
+offset-requires : tie.Need-offset-requires
+offset-requires c κs = fits (c .before)
+
+-- what was found: how many sets, and the slots that hold them
+abbrev found : tie.After-offset → ℕ
+found c = c .before .before .before .before .before .before .before .enumerate .result
+
+abbrev filled : tie.After-offset → List ℕ
+filled c = c .before .before .before .before .before .before .before .enumerate .last .1 .1 .1 .1 .0
+
+end-fits : (c : tie.After-offset) → c .offset .result ≤ length (filled c)
+end-fits c = offset-fits (found c) (c .offset .result) (filled c) (c .offset .ensures) (fits (c .before .before))
+
 slice-relend-prefix-sort : tie.Need-slice-relend-prefix-sort
-slice-relend-prefix-sort c = omega (arith, fits (c), count-masks (c .before .before .before .before .before .enumerate .last .1 .1 .1 .1 .0))
+slice-relend-prefix-sort c = end-fits c
 
 slice-aggregate-sort : tie.Need-slice-aggregate-sort
-slice-aggregate-sort c = sym (length-take-le _ _ (omega (arith, fits (c .before), count-masks (c .before .before .before .before .before .before .enumerate .last .1 .1 .1 .1 .0))))
+slice-aggregate-sort c = sym (length-take-le _ _ (end-fits (c .before)))
 
 sort-requires : tie.Need-sort-requires
 sort-requires c κs = search needs
 
 same-length-2 : tie.Need-same-length-2
-same-length-2 c = length-front (c .before .before .before .before .before .before .before .before .before .enumerate .last .1 .1 .1 .1 .0) (c .before .before .sort .last .0) (c .before .before .before .before .before .before .before .before .before .enumerate .result) (c .before .before .sort .kept .0) ∙ c .before .before .before .before .before .before .before .before .before .enumerate .kept .1 .1 .1 .1 .0
+same-length-2 c =
+    let at = c .before .before .before .before in
+    length-front (filled at) (c .before .before .sort .last .0) (at .offset .result) (c .before .before .sort .kept .0) ∙ at .before .before .before .before .before .before .before .enumerate .kept .1 .1 .1 .1 .0
 
 returns-3 : tie.Need-returns-3
 returns-3 c =
-    let e = (none-holds _ _ (c .before .before .before .before .before .before .before .before .before .before .before .before .before .check-request .ensures) (c .before .before .before .before .before .before .before .before .before .before .before .enum-told .given .1)) in
-    let x = c .before .before .before .before .before .before .before .before .before .enumerate .ensures in
-    let after : List ℕ = c .before .before .before .before .before .before .before .before .before .enumerate .last .1 .1 .1 .1 .0 in
+    let at = c .before .before .before .before in
+    let end : ℕ = at .offset .result in
+    let room = fits (at .before .before) in
+    let e = none-holds _ _ (at .before .before .before .before .before .before .before .before .before .before .before .check-request .ensures) (at .before .before .before .before .before .before .before .before .before .enum-told .given .1) in
+    let x = at .before .before .before .before .before .before .before .enumerate .ensures in
     let part : List ℕ = c .before .before .sort .last .0 in
-    let m : ℕ = c .before .before .before .before .before .before .before .before .before .enumerate .result in
-    let enough : m ≤ length (masks (now (c .before .before .before .before .before .before .before .before .before .before .before .before .before .before .before .before .args .slots))) = omega (arith, fits (c .before .before .before .before), list-long _ _ e _ _ _ x) in
+    let long : length part ≡ end = c .before .before .sort .kept .0 ∙ length-take-le end (filled at) (end-fits at) in
+    let enough : found at ≤ length (masks (now (at .before .before .before .before .before .before .before .before .before .before .before .before .before .before .args .slots))) = omega (arith, room, list-long _ _ e _ _ _ x) in
+    let sorted = subst (λ (t : List ℕ). Sorts t (masks part)) (lent-before (filled at) (found at) end (at .offset .ensures) room) (c .before .before .sort .ensures) in
     record {
       reply = list-fits _ _ e _ _ _ x enough;
-      slots = back-before after part m ∙ list-slots _ _ e _ _ _ x (masks part) (subst (λ (t : List ℕ). Sorts t (masks part)) (take-masks m after) (c .before .before .sort .ensures)) enough;
+      slots = back-before (filled at) (found at) end (at .offset .ensures) part long ∙ list-slots _ _ e _ _ _ x (masks part) sorted enough;
     }
 
 pub list-with-spec : {M : Type 1} → statement M
@@ -104,6 +122,7 @@ list-with-spec =
     clear-requires
     same-length
     returns-2
+    offset-requires
     slice-relend-prefix-sort
     slice-aggregate-sort
     sort-requires

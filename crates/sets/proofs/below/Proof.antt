@@ -1,4 +1,4 @@
--- `sets::below` meets its contract: at most the word of n ones is below 2 ^ n.
+-- `sets::below` meets its contract: it does not come after the vertices below n.
 use Rattle.sets.specs.Words.Operations.{below-mask}
 use borrow.Author.Needs.{needs}
 use Rattle.sets.proofs.below.Statement.{statement}
@@ -7,8 +7,13 @@ use Rattle.sets.proofs.below.Tie as tie
 full-requires : tie.Need-full-requires
 full-requires c κs = search needs
 
+precedes-requires : tie.Need-precedes-requires
+precedes-requires c κs = search needs
+
 returns : tie.Need-returns
-returns c = below-mask (c .before .args .s) (c .full .result) (c .before .args .n) (c .full .ensures)
+returns c =
+    below-mask (c .before .before .args .s) (c .before .full .result) (c .before .before .args .n) (c .precedes .result)
+    (c .before .full .ensures) (c .precedes .ensures)
 
 pub below-spec : {M : Type 1} → statement M
-below-spec = tie.close (tie.spec full-requires returns)
+below-spec = tie.close (tie.spec full-requires precedes-requires returns)

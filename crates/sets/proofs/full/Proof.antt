@@ -5,14 +5,14 @@ use borrow.Author.Needs.{needs}
 use Rattle.sets.proofs.full.Statement.{statement}
 use Rattle.sets.proofs.full.Tie as tie
 
-sub-result : tie.Need-sub-result
-sub-result c = search needs
+sub-word : tie.Need-sub-word
+sub-word c = search needs
 
-shr-result : tie.Need-shr-result
-shr-result c = search needs
+shr-word : tie.Need-shr-word
+shr-word c = search needs
 
 returns : tie.Need-returns
 returns c = full-mask (c .args .n) (omega arith)
 
 pub full-spec : {M : Type 1} → statement M
-full-spec = tie.close (tie.spec sub-result shr-result returns)
+full-spec = tie.close (tie.spec sub-word shr-word returns)

@@ -1,4 +1,5 @@
 -- `sets::has` meets its contract: the bit is shifted down and the others masked off.
+use native.Mathlib.Omega.{arith}
 use Rattle.sets.specs.Words.Operations.{has-mask}
 use borrow.Author.Needs.{needs}
 use Rattle.sets.proofs.has.Statement.{statement}
@@ -8,7 +9,7 @@ shr-result : tie.Need-shr-result
 shr-result c = search needs
 
 returns : tie.Need-returns
-returns c = has-mask (c .args .s) (c .args .v)
+returns c = has-mask (c .before .args .s) (c .before .args .v) (omega arith, tt) (c .before .pre)
 
 pub has-spec : {M : Type 1} → statement M
 has-spec = tie.close (tie.spec shr-result returns)

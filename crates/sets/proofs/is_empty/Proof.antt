@@ -4,7 +4,7 @@ use Rattle.sets.proofs.is_empty.Statement.{statement}
 use Rattle.sets.proofs.is_empty.Tie as tie
 
 returns : tie.Need-returns
-returns c = is-empty-mask (c .args .s)
+returns c = is-empty-mask (c .before .args .s)
 
 pub is-empty-spec : {M : Type 1} → statement M
 is-empty-spec = tie.close (tie.spec returns)

@@ -1,11 +1,11 @@
--- `sets::minus` meets its contract: both words have at most the width.
+-- `sets::minus` meets its contract.
 use native.Mathlib.Omega.{arith}
 use Rattle.sets.specs.Words.Operations.{minus-mask}
 use Rattle.sets.proofs.minus.Statement.{statement}
 use Rattle.sets.proofs.minus.Tie as tie
 
 returns : tie.Need-returns
-returns c = minus-mask (c .args .s) (c .args .t) (omega arith) (omega arith)
+returns c = minus-mask (c .before .before .args .s) (c .before .before .args .t) (omega arith, tt) (omega arith, tt)
 
 pub minus-spec : {M : Type 1} → statement M
 minus-spec = tie.close (tie.spec returns)

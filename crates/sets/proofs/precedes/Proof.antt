@@ -4,7 +4,7 @@ use Rattle.sets.proofs.precedes.Statement.{statement}
 use Rattle.sets.proofs.precedes.Tie as tie
 
 returns : tie.Need-returns
-returns c = precedes-mask (c .args .s) (c .args .t)
+returns c = precedes-mask (c .before .before .args .s) (c .before .before .args .t)
 
 pub precedes-spec : {M : Type 1} → statement M
 precedes-spec = tie.close (tie.spec returns)

@@ -1,28 +1,31 @@
 -- `sets::put` meets its contract.
-use Prim.Native.Nat.{_<_}
+use Prim.Native.Nat.{_*_, _<_}
 use native.Mathlib.Omega.{arith}
-use borrow.Author.Needs.{scaled-fits}
+use borrow.Author.Needs.{needs, scaled-fits}
 use denote.Ref.{now}
 use lib.ListN.{length}
+use Rattle.sets.specs.Words.{perSet}
 use Rattle.sets.specs.Words.Operations.{count-masks, put-masks}
-use borrow.Author.Needs.{needs}
 use Rattle.sets.proofs.put.Statement.{statement}
 use Rattle.sets.proofs.put.Tie as tie
 
-index : (c : tie.Start) → c .args .i < length (now (c .args .words))
-index c = omega (arith, count-masks (now (c .args .words)))
+inside : (c : tie.Start) → c .args .i * perSet < length (now (c .args .words))
+inside c = omega (arith, count-masks (now (c .args .words)), c .pre)
 
 mul-words : tie.Need-mul-words
-mul-words c = scaled-fits (c .args .i) (length (now (c .args .words))) 8 (index c) (search needs)
+mul-words c = search needs
+
+mul-words-2 : tie.Need-mul-words-2
+mul-words-2 c = scaled-fits (c .args .i * perSet) (length (now (c .args .words))) 8 (inside c) (search needs)
 
 slice-write-words : tie.Need-slice-write-words
-slice-write-words c = index c
+slice-write-words c = inside c
 
 same-length : tie.Need-same-length
 same-length c = search needs
 
 returns : tie.Need-returns
-returns c = put-masks (now (c .args .words)) (c .args .i) (c .args .s)
+returns c = put-masks (now (c .args .words)) (c .args .i) (c .args .s) (c .pre)
 
 pub put-spec : {M : Type 1} → statement M
-put-spec = tie.close (tie.spec mul-words slice-write-words same-length returns)
+put-spec = tie.close (tie.spec mul-words mul-words-2 slice-write-words same-length returns)

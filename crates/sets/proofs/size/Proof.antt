@@ -5,10 +5,10 @@ use Rattle.sets.proofs.size.Statement.{statement}
 use Rattle.sets.proofs.size.Tie as tie
 
 cast-result : tie.Need-cast-result
-cast-result c = omega (arith, size-mask (c .args .s) (omega arith))
+cast-result c = omega (arith, size-mask (c .before .args .s) (omega arith, tt))
 
 returns : tie.Need-returns
-returns c = size-mask (c .args .s) (omega arith)
+returns c = size-mask (c .before .args .s) (omega arith, tt)
 
 pub size-spec : {M : Type 1} → statement M
 size-spec = tie.close (tie.spec cast-result returns)

@@ -1,5 +1,8 @@
 -- `sets::with` meets its contract.
-use Rattle.sets.specs.Words.Operations.{with-mask}
+use mathlib.Core.Path.{ap, _∙_}
+use lib.Bits.{bitOr}
+use Rattle.sets.specs.Set.{with}
+use Rattle.sets.specs.Words.{mask}
 use borrow.Author.Needs.{needs}
 use Rattle.sets.proofs.with.Statement.{statement}
 use Rattle.sets.proofs.with.Tie as tie
@@ -7,8 +10,12 @@ use Rattle.sets.proofs.with.Tie as tie
 single-requires : tie.Need-single-requires
 single-requires c κs = search needs
 
+join-requires : tie.Need-join-requires
+join-requires c κs = search needs
+
 returns : tie.Need-returns
-returns c = with-mask (c .before .args .s) (c .single .result) (c .before .args .v) (c .single .ensures)
+unfolding with
+returns c = c .join .ensures ∙ ap (bitOr (mask (c .before .before .args .s))) (c .before .single .ensures)
 
 pub with-spec : {M : Type 1} → statement M
-with-spec = tie.close (tie.spec single-requires returns)
+with-spec = tie.close (tie.spec single-requires join-requires returns)

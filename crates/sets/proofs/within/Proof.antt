@@ -1,10 +1,22 @@
--- `sets::within` meets its contract.
-use Rattle.sets.specs.Words.Operations.{within-mask}
+-- `sets::within` meets its contract: s is what it shares with t.
+use Prim.Native.Nat.{ℕ}
+use mathlib.Core.Path.{ap, _∙_}
+use lib.Dec.{eqb}
+use Rattle.sets.specs.Set.{subset}
+use Rattle.sets.specs.Words.{mask}
+use borrow.Author.Needs.{needs}
 use Rattle.sets.proofs.within.Statement.{statement}
 use Rattle.sets.proofs.within.Tie as tie
 
+meet-requires : tie.Need-meet-requires
+meet-requires c κs = search needs
+
+same-requires : tie.Need-same-requires
+same-requires c κs = search needs
+
 returns : tie.Need-returns
-returns c = within-mask (c .args .s) (c .args .t)
+unfolding subset
+returns c = c .same .ensures ∙ ap (λ (x : ℕ). eqb x (mask (c .before .before .args .s))) (c .before .meet .ensures)
 
 pub within-spec : {M : Type 1} → statement M
-within-spec = tie.close (tie.spec returns)
+within-spec = tie.close (tie.spec meet-requires same-requires returns)

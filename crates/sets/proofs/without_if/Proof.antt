@@ -1,18 +1,25 @@
 -- `sets::without_if` meets its contract: the bit is shifted where it is 1, and else nothing is taken out.
-use native.Mathlib.Omega.{arith}
-use Rattle.sets.specs.Words.Operations.{without-if-mask}
+use mathlib.Core.Path.{ap, _∙_}
+use Rattle.sets.specs.Set.{minus}
+use Rattle.sets.specs.Words.{mask}
+use Rattle.sets.specs.Words.Operations.{single-if-mask, without-if-mask}
 use borrow.Author.Needs.{needs}
 use Rattle.sets.proofs.without_if.Statement.{statement}
 use Rattle.sets.proofs.without_if.Tie as tie
 
-cast-result : tie.Need-cast-result
-cast-result c = search needs
+cast-word : tie.Need-cast-word
+cast-word c = search needs
 
-shl-result : tie.Need-shl-result
-shl-result c = search needs
+shl-word : tie.Need-shl-word
+shl-word c = search needs
+
+minus-requires : tie.Need-minus-requires
+minus-requires c κs = search needs
 
 returns : tie.Need-returns
-returns c = without-if-mask (c .args .s) (c .args .v) (c .args .b) (omega arith) (c .pre)
+returns c =
+    c .minus .ensures ∙ ap (minus (mask (c .before .args .s))) (single-if-mask (c .before .args .v) (c .before .args .b) (c .before .pre))
+    ∙ without-if-mask (mask (c .before .args .s)) (c .before .args .v) (c .before .args .b)
 
 pub without-if-spec : {M : Type 1} → statement M
-without-if-spec = tie.close (tie.spec cast-result shl-result returns)
+without-if-spec = tie.close (tie.spec cast-word shl-word minus-requires returns)

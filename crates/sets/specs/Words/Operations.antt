@@ -1,136 +1,217 @@
--- What each operation on stored sets does to their masks. These laws hold for sets of one word.
-use Prim.Native.Nat.{ℕ, _+_, _-_, _*_, _/_, _%_, _^_, _≤_, _<_, min, max}
+-- What each operation on stored sets does to their masks: the laws of Words/Numbers and Words/Groups at one word per set.
+use Prim.Native.Nat.{ℕ, zero, suc, _+_, _-_, _*_, _/_, _%_, _^_, _≤_, _<_, min}
 use native.Mathlib.Omega.{arith}
-use native.Mathlib.Nat.{mod-lt, zero-mul}
-use mathlib.Core.Path.{_≡_, refl, ap, _∙_}
-use mathlib.Core.Bool.{Bool, true, false, cond}
-use mathlib.Core.List.{List, _++_}
-use lib.Dec.{eqb, leb, ltb}
-use lib.Bits.{bitAnd, bitOr, and-mask}
+use native.Mathlib.Nat.{zero-mul}
+use native.Mathlib.Decide.{decLt}
+use mathlib.Core.Path.{_≡_, refl, sym, ap, ap₂, _∙_, subst}
+use mathlib.Core.Bool.{Bool, true, false, not, cond}
+use mathlib.Core.List.{List, [], _∷_, _++_}
+use borrow.Author.Tests.{lt-ltb, le-ltb, eq-eqb}
+use lib.Dec.{eqb, ltb}
 use lib.Pow.{pow-pos}
-use mir.Val.{boolByte}
+use lib.Bits.{bitAnd, bitOr, and-mask}
 use lib.Count.{ones, ones-le, trailingZeros}
-use lib.ListN.{length, getD, set, take, drop}
-use Rattle.sets.specs.Set.{bit, has, size, subset, with, minus, without, full}
-use Rattle.sets.specs.SubsetLaws.{minus-none}
+use lib.ListN.{length, getD, take, drop, set, length-take, length-drop, length-append, length-replicate}
+use lib.Seq.{length-sets}
+use mir.Val.{boolByte}
+use Rattle.sets.specs.Ranges.{total}
+use Rattle.sets.specs.Set.{bit, has, size, minus, without, full}
 use Rattle.sets.specs.Graph.{row}
-use Rattle.sets.specs.Words.{width, mask, masks, Lowest}
-use Rattle.sets.specs.WordLaws.{shift-one, shift-ones, shifted-has, le-ones-lt, and-not, trailing-lowest, clear-lowest}
+use Rattle.sets.specs.SubsetLaws.{positive, minus-none}
+use Rattle.sets.specs.WordLaws.{shifted-has, shift-one, shift-ones, and-not, trailing-lowest, clear-lowest}
+use Rattle.sets.specs.declared.Set.{Set}
+use Rattle.sets.specs.Words.{wordBits, perSet, width, number, Fit, words, wordOf, mask, groups, masks, Lowest}
+use Rattle.sets.specs.Words.Numbers.{zip, lifted, and-blocks, or-blocks, minus-blocks, ones-number, bit-number, order-low, lowest-at, clear-at}
+use Rattle.sets.specs.Words.Numbers.{fulls, full-number, singles, single-number, union, empty-number}
+use Rattle.sets.specs.Words.Groups.{length-groups, get-groups, append-groups, take-groups, drop-groups, put-groups, reads, take-reads}
+use Rattle.sets.specs.Words.Groups.{blank, blank-groups}
 
-pub empty-mask : mask 0 ≡ 0
-unfolding mask
-empty-mask = refl
+-- the words of a set have wordBits digits
+abbrev pub Fits : Set → Type 0
+Fits s = Fit (words s)
 
-pub full-mask : (n : ℕ) → n ≤ width → mask ((2 ^ width - 1) / 2 ^ (width - n)) ≡ full n
-unfolding mask
-full-mask n h =
-    let e : width ≡ n + (width - n) = omega arith in
-    ap (λ (m : ℕ). (2 ^ m - 1) / 2 ^ (width - n)) e ∙ shift-ones n (width - n)
+-- ---- sets of a word, and the words of a set
 
-pub single-mask : (v : ℕ) → v < width → mask ((1 * 2 ^ v) % 2 ^ width) ≡ 2 ^ v
-unfolding mask
-single-mask v h = shift-one width v h
+pub of-word-mask : (w : ℕ) → mask (record { word = w }) ≡ w
+unfolding mask number
+of-word-mask w = omega arith
 
-pub has-mask : (s v : ℕ) → eqb (bitAnd (s / 2 ^ v) 1) 1 ≡ has (mask s) v
-unfolding mask
-has-mask s v = shifted-has s v
+pub word-of : (s : Set) (j : ℕ) → j < perSet → s .word ≡ wordOf s j
+unfolding wordOf
+word-of s zero l = refl
+word-of s (suc j) l = absurd (omega arith)
 
-pub size-mask : (s : ℕ) → s < 2 ^ width → (ones s ≡ size (mask s)) × (ones s ≤ width)
-unfolding mask
-size-mask s h = (refl, ones-le width s h)
+-- word 0 is all of a set: at one word per set only
+pub word-mask : (s : Set) → wordOf s 0 ≡ mask s
+unfolding wordOf mask number
+word-mask s = omega arith
 
-pub same-mask : (s t : ℕ) → eqb s t ≡ eqb (mask s) (mask t)
-unfolding mask
-same-mask s t = refl
+-- ---- operations that go word by word
 
-pub is-empty-mask : (s : ℕ) → eqb s 0 ≡ eqb (mask s) 0
-unfolding mask
-is-empty-mask s = refl
+pub empty-mask : mask (record { word = 0 }) ≡ 0
+empty-mask = of-word-mask 0
 
-pub within-mask : (s t : ℕ) → eqb (bitAnd s t) s ≡ subset (mask s) (mask t)
-unfolding mask subset
-within-mask s t = refl
+pub meet-mask : (s t : Set) → Fits s → Fits t → mask (record { word = bitAnd (s .word) (t .word) }) ≡ bitAnd (mask s) (mask t)
+unfolding mask zip
+meet-mask s t h k = lifted bitAnd refl and-blocks (words s) (words t) h k refl
 
-pub below-mask : (s f n : ℕ) → mask f ≡ full n → leb s f ≡ ltb (mask s) (2 ^ n)
-unfolding mask
-below-mask s f n e = ap (leb s) e ∙ le-ones-lt n s
+pub join-mask : (s t : Set) → Fits s → Fits t → mask (record { word = bitOr (s .word) (t .word) }) ≡ bitOr (mask s) (mask t)
+unfolding mask zip
+join-mask s t h k = lifted bitOr refl or-blocks (words s) (words t) h k refl
 
-pub meet-mask : (s t : ℕ) → mask (bitAnd s t) ≡ bitAnd (mask s) (mask t)
-unfolding mask
-meet-mask s t = refl
-
-pub join-mask : (s t : ℕ) → mask (bitOr s t) ≡ bitOr (mask s) (mask t)
-unfolding mask
-join-mask s t = refl
-
-pub minus-mask : (s t : ℕ) → s < 2 ^ width → t < 2 ^ width → mask (bitAnd s (2 ^ width - 1 - t)) ≡ minus (mask s) (mask t)
-unfolding mask
-minus-mask s t hs ht = and-not width s t hs ht
-
-pub with-mask : (s t v : ℕ) → mask t ≡ 2 ^ v → mask (bitOr s t) ≡ with (mask s) v
-unfolding mask with
-with-mask s t v e = ap (bitOr s) e
-
-pub without-mask : (s t v : ℕ) → s < 2 ^ width → t < 2 ^ width → mask t ≡ 2 ^ v → mask (bitAnd s (2 ^ width - 1 - t)) ≡ without (mask s) v
-without-mask s t v hs ht e = minus-mask s t hs ht ∙ ap (minus (mask s)) e
-
-pub without-if-mask : (s v : ℕ) (b : Bool) → s < 2 ^ width → v < width
-    → mask (bitAnd s (2 ^ width - 1 - boolByte b * 2 ^ v % 2 ^ width)) ≡ cond b (without (mask s) v) (mask s)
-without-if-mask s v true hs hv = without-mask s (1 * 2 ^ v % 2 ^ width) v hs (mod-lt (1 * 2 ^ v) (pow-pos width)) (single-mask v hv)
-without-if-mask s v false hs hv =
-    minus-mask s (0 * 2 ^ v % 2 ^ width) hs (mod-lt (0 * 2 ^ v) (pow-pos width)) ∙ ap (minus (mask s)) nothing ∙ minus-none (mask s)
+pub minus-mask : (s t : Set) → Fits s → Fits t → mask (record { word = bitAnd (s .word) (2 ^ wordBits - 1 - t .word) }) ≡ minus (mask s) (mask t)
+unfolding mask zip minus
+minus-mask s t h k = ap number (each (words s) (words t) h k) ∙ lifted minus refl minus-blocks (words s) (words t) h k refl
   where
-    nothing : mask (0 * 2 ^ v % 2 ^ width) ≡ 0
-    nothing = ap (λ (x : ℕ). mask (x % 2 ^ width)) (zero-mul (2 ^ v)) ∙ empty-mask
+    each : (xs ys : List ℕ) → Fit xs → Fit ys → zip (λ (x y : ℕ). bitAnd x (2 ^ wordBits - 1 - y)) xs ys ≡ zip minus xs ys
+    each [] ys h k = refl
+    each (x ∷ xs) [] h k = refl
+    each (x ∷ xs) (y ∷ ys) h k = ap₂ _∷_ (and-not wordBits x y (h .0) (k .0)) (each xs ys (h .1) (k .1))
 
-pub indicator-mask : (s v : ℕ) → bitAnd (s / 2 ^ v) 1 ≡ bit (mask s) v
-unfolding mask bit
-indicator-mask s v = and-mask (s / 2 ^ v) 1
+pub full-mask : (n : ℕ) → n ≤ width → mask (record { word = (2 ^ wordBits - 1) / 2 ^ (width - n) }) ≡ full n
+unfolding mask fulls
+full-mask n l =
+    let e : wordBits ≡ min (n - 0) wordBits + (width - n) = omega arith in
+    let z : n - 0 ≡ n = omega arith in
+    ap (λ (x : ℕ). number (x ∷ [])) (ap (λ (m : ℕ). (2 ^ m - 1) / 2 ^ (width - n)) e ∙ shift-ones (min (n - 0) wordBits) (width - n))
+    ∙ full-number perSet n 0 (omega arith) ∙ ap full z
 
-pub lowest-mask : (s : ℕ) → s < 2 ^ width → 0 < mask s → Lowest (mask s) (trailingZeros width s)
+pub single-mask : (v : ℕ) → v < width → mask (record { word = (1 * 2 ^ v) % 2 ^ wordBits }) ≡ 2 ^ v
+unfolding mask singles
+single-mask v l =
+    let here : v / wordBits ≡ 0 = omega arith in
+    let e : v ≡ v % wordBits = omega arith in
+    let z : v - 0 * wordBits ≡ v = omega arith in
+    ap (λ (x : ℕ). number (x ∷ []))
+    (shift-one wordBits v l ∙ ap (λ (m : ℕ). 2 ^ m) e ∙ sym (ap (λ (b : Bool). cond b (2 ^ (v % wordBits)) 0) (eq-eqb (v / wordBits) 0 here)))
+    ∙ single-number perSet v 0 (omega arith) (omega arith) ∙ ap (λ (m : ℕ). 2 ^ m) z
+
+-- v alone where b holds, else no vertex
+pub single-if-mask : (v : ℕ) (b : Bool) → v < width → mask (record { word = boolByte b * 2 ^ v % 2 ^ wordBits }) ≡ cond b (2 ^ v) 0
+single-if-mask v true l = single-mask v l
+single-if-mask v false l = ap (λ (x : ℕ). mask (record { word = x % 2 ^ wordBits })) (zero-mul (2 ^ v)) ∙ empty-mask
+
+pub without-if-mask : (s v : ℕ) (b : Bool) → minus s (cond b (2 ^ v) 0) ≡ cond b (without s v) s
+without-if-mask s v true = refl
+without-if-mask s v false = minus-none s
+
+-- ---- what a set is asked
+
+-- a digit of the mask is one of its word
+digit : (s : Set) (v : ℕ) → Fits s → v < width → bit (s .word) v ≡ bit (mask s) v
+unfolding mask
+digit s v h l =
+    let i : 0 ≡ v / wordBits = omega arith in
+    let j : v ≡ v % wordBits = omega arith in
+    ap₂ (λ (m n : ℕ). bit (getD (words s) m 0) n) i j ∙ sym (bit-number (words s) v 0 h (omega arith))
+
+pub has-mask : (s : Set) (v : ℕ) → Fits s → v < width → eqb (bitAnd (s .word / 2 ^ v) 1) 1 ≡ has (mask s) v
+unfolding has
+has-mask s v h l = shifted-has (s .word) v ∙ ap (λ (y : ℕ). eqb y 1) (digit s v h l)
+
+pub indicator-mask : (s : Set) (v : ℕ) → Fits s → v < width → bitAnd (s .word / 2 ^ v) 1 ≡ bit (mask s) v
+unfolding bit
+indicator-mask s v h l = and-mask (s .word / 2 ^ v) 1 ∙ digit s v h l
+
+pub size-mask : (s : Set) → Fits s → (ones (s .word) ≡ size (mask s)) × (ones (s .word) ≤ width)
+unfolding mask total
+size-mask s h = (omega (arith, ones-number (words s) h), ones-le wordBits (s .word) (h .0))
+
+pub is-empty-mask : (s : Set) → eqb (s .word) 0 ≡ eqb (mask s) 0
+unfolding mask union
+is-empty-mask s = empty-number (s .word) []
+
+-- ---- order
+
+pub same-mask : (s t : Set) → eqb (s .word) (t .word) ≡ eqb (mask s) (mask t)
+same-mask s t = ap₂ eqb (sym (of-word-mask (s .word))) (sym (of-word-mask (t .word)))
+
+pub precedes-mask : (s t : Set) → ltb (s .word) (t .word) ≡ ltb (mask s) (mask t)
+unfolding mask number
+precedes-mask s t = sym (order-low 0 (s .word) (t .word))
+
+-- no mask above that of the vertices below n is below 2 ^ n
+pub below-mask : (s f : Set) (n : ℕ) (r : Bool) → mask f ≡ full n → r ≡ ltb (mask f) (mask s) → not r ≡ ltb (mask s) (2 ^ n)
+below-mask s f n r e q = ap not (q ∙ ap (λ (x : ℕ). ltb x (mask s)) e) ∙ go (decLt (full n) (mask s))
+  where
+    go : Dec (full n < mask s) → not (ltb (full n) (mask s)) ≡ ltb (mask s) (2 ^ n)
+    go (yes l) = ap not (lt-ltb (full n) (mask s) l) ∙ sym (le-ltb (mask s) (2 ^ n) (omega arith))
+    go (no nl) = ap not (le-ltb (full n) (mask s) (omega arith)) ∙ sym (lt-ltb (mask s) (2 ^ n) (omega (arith, pow-pos n)))
+
+-- ---- the lowest member
+
+-- a set with a member has a word that is not 0
+pub nonzero-word : (s : Set) → 0 < mask s → 0 < s .word
+unfolding mask number
+nonzero-word s p = omega (arith, p)
+
+pub lowest-mask : (s : Set) → Fits s → 0 < mask s → Lowest (mask s) (trailingZeros wordBits (s .word))
 unfolding mask
 lowest-mask s h p =
-    let r = trailing-lowest width s p h in
-    record { fits = r .0; member = r .1; least = r .2 }
+    let r = trailing-lowest wordBits (s .word) (nonzero-word s p) (h .0) in
+    let q = lowest-at [] (s .word) [] (trailingZeros wordBits (s .word)) tt (h .0) (r .0) (record { member = r .1; least = r .2 }) in
+    let z : 0 * wordBits + trailingZeros wordBits (s .word) ≡ trailingZeros wordBits (s .word) = omega arith in
+    subst (Lowest (number (words s))) z (record { fits = omega (arith, r .0); member = q .member; least = q .least })
 
-pub rest-mask : (s v : ℕ) → Lowest (mask s) v → mask (bitAnd s (s - 1)) ≡ without (mask s) v
+pub rest-mask : (s : Set) (v : ℕ) → Fits s → Lowest (mask s) v → mask (record { word = bitAnd (s .word) (s .word - 1) }) ≡ without (mask s) v
 unfolding mask
-rest-mask s v h = clear-lowest s v (h .member) (h .least)
+rest-mask s v h l =
+    clear-at [] (s .word) [] tt (nonzero-word s (positive (mask s) v (l .member))) (h .0) .0
+    ∙ clear-lowest (number (words s)) v (l .member) (l .least)
 
-pub count-masks : (ws : List ℕ) → length ws ≡ length (masks ws)
+-- ---- lent words
+
+pub count-masks : (ws : List ℕ) → length ws / perSet ≡ length (masks ws)
 unfolding masks
-count-masks ws = refl
+count-masks ws = sym (length-groups perSet (length ws / perSet) ws)
 
-pub get-mask : (ws : List ℕ) (i : ℕ) → mask (getD ws i 0) ≡ row (masks ws) i
-unfolding mask masks row
-get-mask ws i = refl
+pub get-mask : (ws : List ℕ) (i : ℕ) → i < length (masks ws) → mask (record { word = getD ws (i * perSet) 0 }) ≡ row (masks ws) i
+unfolding mask masks row reads
+get-mask ws i l =
+    let k : i < length ws / perSet = omega (arith, length-groups perSet (length ws / perSet) ws) in
+    ap number (sym (take-reads perSet ws (i * perSet) (omega arith))) ∙ sym (get-groups perSet (length ws / perSet) i ws k)
 
-pub put-masks : (ws : List ℕ) (i s : ℕ) → masks (set ws i s) ≡ set (masks ws) i (mask s)
+pub put-masks : (ws : List ℕ) (i : ℕ) (s : Set) → i < length (masks ws) → masks (set ws (i * perSet) (s .word)) ≡ set (masks ws) i (mask s)
 unfolding mask masks
-put-masks ws i s = refl
-
-pub precedes-mask : (s t : ℕ) → ltb s t ≡ ltb (mask s) (mask t)
-unfolding mask
-precedes-mask s t = refl
-
-pub earlier-mask : (s t : ℕ) → (s < t → mask s ≡ min (mask s) (mask t)) × (t ≤ s → mask t ≡ min (mask s) (mask t))
-unfolding mask
-earlier-mask s t = (λ l. omega arith, λ l. omega arith)
-
-pub later-mask : (s t : ℕ) → (s < t → mask t ≡ max (mask s) (mask t)) × (t ≤ s → mask s ≡ max (mask s) (mask t))
-unfolding mask
-later-mask s t = (λ l. omega arith, λ l. omega arith)
+put-masks ws i s l =
+    let k : i < length ws / perSet = omega (arith, length-groups perSet (length ws / perSet) ws) in
+    let c : length ws / perSet ≡ i + suc (length ws / perSet - suc i) = omega arith in
+    ap (λ (n : ℕ). groups perSet (n / perSet) (set ws (i * perSet) (s .word))) (length-sets ws (i * perSet) (words s))
+    ∙ subst (λ (n : ℕ). groups perSet n (set ws (i * perSet) (s .word)) ≡ set (groups perSet n ws) i (number (words s))) (sym c)
+    (put-groups perSet i (length ws / perSet - suc i) ws (words s) refl (omega arith))
 
 -- ---- parts of lent words
 
-pub take-masks : (n : ℕ) (ws : List ℕ) → masks (take n ws) ≡ take n (masks ws)
-unfolding masks
-take-masks n ws = refl
+-- the word at which position n starts lies within the words
+pub offset-fits : (n end : ℕ) (ws : List ℕ) → end ≡ n * perSet → n ≤ length (masks ws) → end ≤ length ws
+offset-fits n end ws e l = omega (arith, e, l, count-masks ws)
 
-pub drop-masks : (n : ℕ) (ws : List ℕ) → masks (drop n ws) ≡ drop n (masks ws)
+pub take-masks : (n : ℕ) (ws : List ℕ) → n ≤ length (masks ws) → masks (take (n * perSet) ws) ≡ take n (masks ws)
 unfolding masks
-drop-masks n ws = refl
+take-masks n ws l =
+    let k : n ≤ length ws / perSet = omega (arith, length-groups perSet (length ws / perSet) ws) in
+    let c : n + (length ws / perSet - n) ≡ length ws / perSet = omega arith in
+    let e : length (take (n * perSet) ws) / perSet ≡ n = omega (arith, length-take (n * perSet) ws) in
+    ap (λ (m : ℕ). groups perSet m (take (n * perSet) ws)) e
+    ∙ take-groups perSet n (length ws / perSet - n) ws (omega arith) ∙ ap (λ (m : ℕ). take n (groups perSet m ws)) c
 
-pub append-masks : (vs ws : List ℕ) → masks (vs ++ ws) ≡ masks vs ++ masks ws
+pub drop-masks : (n : ℕ) (ws : List ℕ) → masks (drop (n * perSet) ws) ≡ drop n (masks ws)
 unfolding masks
-append-masks vs ws = refl
+drop-masks n ws =
+    let e : length (drop (n * perSet) ws) / perSet ≡ length ws / perSet - n = omega (arith, length-drop (n * perSet) ws) in
+    ap (λ (m : ℕ). groups perSet m (drop (n * perSet) ws)) e ∙ drop-groups perSet n (length ws / perSet) ws
+
+-- m sets in front of words
+pub append-masks : (m : ℕ) (vs ws : List ℕ) → length vs ≡ m * perSet → masks (vs ++ ws) ≡ masks vs ++ masks ws
+unfolding masks
+append-masks m vs ws e =
+    let a : length (vs ++ ws) / perSet ≡ m + length ws / perSet = omega (arith, e, length-append vs ws) in
+    let b : m ≡ length vs / perSet = omega (arith, e) in
+    ap (λ (k : ℕ). groups perSet k (vs ++ ws)) a ∙ append-groups perSet m (length ws / perSet) vs ws e
+    ∙ ap (λ (k : ℕ). groups perSet k vs ++ groups perSet (length ws / perSet) ws) b
+
+pub blank-masks : (n : ℕ) → masks (blank (n * perSet)) ≡ blank n
+unfolding masks
+blank-masks n =
+    let e : length (blank (n * perSet)) / perSet ≡ n = omega (arith, length-replicate {A = ℕ} (n * perSet) 0) in
+    ap (λ (m : ℕ). groups perSet m (blank (n * perSet))) e ∙ blank-groups perSet n

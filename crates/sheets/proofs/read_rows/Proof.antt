@@ -5,8 +5,8 @@ use mathlib.Core.Path.{sym}
 use denote.Ref.{now}
 use lib.ListN.{length, take, drop}
 use lib.Seq.{length-take-le}
-use Rattle.sets.specs.Words.{width}
-use Rattle.sets.specs.Words.Operations.{count-masks}
+use Rattle.sets.specs.Words.{width, masks}
+use Rattle.sets.specs.Words.Operations.{offset-fits}
 use Rattle.sheets.specs.Sheet.{headingLength}
 use Rattle.sheets.specs.ReadLaws.{text-long, vertices-read, body-refused, room-refused, rows-read}
 use Rattle.sheets.specs.BodyLaws.{taken-lines, passed-right}
@@ -19,9 +19,6 @@ long c = text-long (c .args .n) (c .args .request) (now (c .args .text)) (c .pre
 
 vertices : (c : tie.Start) → (1 ≤ c .args .n) × (c .args .n ≤ width)
 vertices c = vertices-read (c .args .n) (c .args .request) (now (c .args .text)) (c .pre)
-
-room : (c : tie.Else1) → c .before .before .before .before .before .before .before .before .before .args .n ≤ length (now (c .before .before .before .before .before .before .before .before .before .args .rows))
-room c = omega (arith, c .before .count .ensures, count-masks (now (c .before .before .before .before .before .before .before .before .before .args .rows)))
 
 sub-below : tie.Need-sub-below
 sub-below c = long (c .before .before)
@@ -61,30 +58,47 @@ returns-2 c =
     room-refused (s .args .n) (s .args .request) (now (s .args .text)) (s .pre) (now (s .args .rows))
     (judged .result) (judged .ensures) (c .before .before .before .enum-told .given .1) (omega (arith, c .before .count .ensures))
 
+-- there is room for the n rows
+room : (c : tie.Else1) → c .before .before .before .before .before .before .before .before .before .args .n
+    ≤ length (masks (now (c .before .before .before .before .before .before .before .before .before .args .rows)))
+room c = omega (arith, c .before .count .ensures)
+
+offset-requires : tie.Need-offset-requires
+offset-requires c κs = room (c .before)
+
+abbrev start : tie.After-offset → tie.Start
+start c = c .before .before .before .before .before .before .before .before .before .before .before
+
+fits : (c : tie.After-offset) → c .offset .result ≤ length (now (start c .args .rows))
+fits c = offset-fits (start c .args .n) (c .offset .result) (now (start c .args .rows)) (c .offset .ensures) (room (c .before .before))
+
 slice-relend-prefix-store-rows : tie.Need-slice-relend-prefix-store-rows
-slice-relend-prefix-store-rows c = room c
+slice-relend-prefix-store-rows c = fits c
 
 slice-aggregate-store-rows : tie.Need-slice-aggregate-store-rows
-slice-aggregate-store-rows c = let s = c .before .before .before .before .before .before .before .before .before .before in sym (length-take-le (s .args .n) (now (s .args .rows)) (room (c .before)))
+slice-aggregate-store-rows c = sym (length-take-le (c .before .offset .result) (now (start (c .before) .args .rows)) (fits (c .before)))
 
 store-rows-requires : tie.Need-store-rows-requires
 store-rows-requires c κs =
-    let s = c .before .before .before .before .before .before .before .before .before .before in
-    let judged = c .before .before .before .before .before .before .check-body in
+    let at = c .before in
+    let s = start at in
+    let judged = at .before .before .before .before .before .before .before .check-body in
     let below = take (length (now (s .args .text)) - headingLength) (drop headingLength (now (s .args .text))) in
-    taken-lines (s .args .n) (now (s .args .rows)) below (room (c .before)) (vertices s .1)
-    (passed-right (s .args .n) below (judged .result) (judged .ensures) (c .before .before .before .before .enum-told .given .1))
+    taken-lines (s .args .n) (at .offset .result) (at .offset .ensures) (now (s .args .rows)) below (room (at .before .before)) (vertices s .1)
+    (passed-right (s .args .n) below (judged .result) (judged .ensures) (at .before .before .before .before .before .enum-told .given .1))
 
 same-length-2 : tie.Need-same-length-2
 same-length-2 c = search needs
 
 returns-3 : tie.Need-returns-3
 returns-3 c =
-    let s = c .before .before .before .before .before .before .before .before .before .before .before .before .before in
-    let judged = c .before .before .before .before .before .before .before .before .before .check-body in
+    let store = c .before .before .store-rows in
+    let at = c .before .before .before .before in
+    let s = start at in
+    let judged = at .before .before .before .before .before .before .before .check-body in
     rows-read (s .args .n) (s .args .request) (now (s .args .text)) (s .pre) (now (s .args .rows))
-    (judged .result) (judged .ensures) (c .before .before .before .before .before .before .before .enum-told .given .1)
-    (c .before .before .store-rows .last .1 .0) (room (c .before .before .before .before)) (c .before .before .store-rows .ensures)
+    (judged .result) (judged .ensures) (at .before .before .before .before .before .enum-told .given .1)
+    (at .offset .result) (store .last .1 .0) (at .offset .ensures) (room (at .before .before)) (store .kept .1 .0) (store .ensures)
 
 pub read-rows-spec : {M : Type 1} → statement M
 read-rows-spec =
@@ -100,6 +114,7 @@ read-rows-spec =
     count-requires
     same-length
     returns-2
+    offset-requires
     slice-relend-prefix-store-rows
     slice-aggregate-store-rows
     store-rows-requires

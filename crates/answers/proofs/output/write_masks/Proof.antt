@@ -3,11 +3,11 @@ use Rattle.sets.specs.Graph.{row}
 use borrow.Rule.Slice.PartMut.{same-len-mid}
 use Prim.Native.Nat.{_+_, _-_, _*_, _≤_}
 use native.Mathlib.Omega.{arith}
-use mathlib.Core.Path.{_≡_, refl, sym, _∙_}
+use mathlib.Core.Path.{_≡_, refl, _∙_}
 use mathlib.Core.List.{_++_}
 use denote.Ref.{now}
 use lib.ListN.{length, drop, take}
-use Rattle.sets.specs.Words.{masks, mask-word}
+use Rattle.sets.specs.Words.{mask, masks}
 use Rattle.sheets.specs.Lines.{lines}
 use Rattle.sheets.specs.Sheet.{rowDigits, rowLength}
 use Rattle.sheets.specs.LineLaws.{part-length, write-start, write-more, write-all}
@@ -34,20 +34,20 @@ mul-at c = omega arith
 add-end : tie.Need-add-end Inv-loop μ-loop
 add-end c = omega arith
 
-sub-write-line : tie.Need-sub-write-line Inv-loop μ-loop
-sub-write-line c = omega arith
+sub-write-row : tie.Need-sub-write-row Inv-loop μ-loop
+sub-write-row c = omega arith
 
-part-write-line-start : tie.Need-part-write-line-start Inv-loop μ-loop
-part-write-line-start c = omega arith
+part-write-row-start : tie.Need-part-write-row-start Inv-loop μ-loop
+part-write-row-start c = omega arith
 
-part-write-line-end : tie.Need-part-write-line-end Inv-loop μ-loop
-part-write-line-end c = omega arith
+part-write-row-end : tie.Need-part-write-row-end Inv-loop μ-loop
+part-write-row-end c = omega arith
 
 get-requires : tie.Need-get-requires Inv-loop μ-loop
 get-requires c κs = omega arith
 
-write-line-requires : tie.Need-write-line-requires Inv-loop μ-loop
-write-line-requires c κs =
+write-row-requires : tie.Need-write-row-requires Inv-loop μ-loop
+write-row-requires c κs =
     let at = c .before .before .before .loop in
     omega (arith, part-length (at .i * rowLength) rowLength (at .out) (omega arith))
 
@@ -62,13 +62,13 @@ unfolding row
 loop-again c =
     let s = c .before .before .before .before .before .before .before .before .before .before in
     let at = c .before .before .before .before .before .before .loop in
-    let word = c .before .before .before .get .result in
-    let part = c .before .before .write-line .last .0 in (
+    let x = mask (c .before .before .before .get .result) in
+    let part = c .before .before .write-row .last .0 in (
       omega arith,
       at .inv .1,
-      same-len-mid (at .i * rowLength) ((at .i * rowLength + rowLength) - at .i * rowLength) (at .out) part (c .before .before .write-line .kept .0) ∙ at .inv .2,
-      write-more rowDigits (at .i) word (masks (now (s .args .list))) (now (s .args .out)) (at .out) part (omega arith) (omega arith) (at .inv .3)
-          (sym (mask-word word) ∙ c .before .before .before .get .ensures) (c .before .before .write-line .ensures),
+      same-len-mid (at .i * rowLength) ((at .i * rowLength + rowLength) - at .i * rowLength) (at .out) part (c .before .before .write-row .kept .0) ∙ at .inv .2,
+      write-more rowDigits (at .i) x (masks (now (s .args .list))) (now (s .args .out)) (at .out) part (omega arith) (omega arith) (at .inv .3)
+          (c .before .before .before .get .ensures) (c .before .before .write-row .ensures),
     )
 
 same-length : tie.Need-same-length Inv-loop μ-loop
@@ -89,11 +89,11 @@ write-masks-spec =
     loop-holds
     mul-at
     add-end
-    sub-write-line
-    part-write-line-start
-    part-write-line-end
+    sub-write-row
+    part-write-row-start
+    part-write-row-end
     get-requires
-    write-line-requires
+    write-row-requires
     add-i
     loop-less
     loop-again

@@ -8,10 +8,10 @@ use Rattle.bounds.proofs.core.pass.Statement.{statement}
 use Rattle.bounds.proofs.core.pass.Tie as tie
 
 abbrev Inv-loop : tie.InvT-loop
-Inv-loop rows m s kept₀ left₀ kept left = Peeling (masks rows) m (mask s) (mask left) (mask kept)
+Inv-loop rows m kept₀ left₀ kept left = Peeling (masks rows) m (mask left₀) (mask left) (mask kept)
 
 abbrev μ-loop : tie.MeasureT-loop
-μ-loop rows m s kept₀ left₀ kept left = mask left
+μ-loop rows m kept₀ left₀ kept left = mask left
 
 loop-holds : tie.Need-loop-holds Inv-loop μ-loop
 loop-holds c = peeling-none _ _ _

@@ -12,10 +12,10 @@ use Rattle.judging.proofs.plex.is_extendable.Statement.{statement}
 use Rattle.judging.proofs.plex.is_extendable.Tie as tie
 
 abbrev Inv-loop : tie.InvT-loop
-Inv-loop rows k s free left₀ left = Walked (λ (x : ℕ). k ≤ missing (masks rows) (mask s) x) (unblocked (masks rows) k (mask s)) (mask left)
+Inv-loop rows k s left₀ left = Walked (λ (x : ℕ). k ≤ missing (masks rows) (mask s) x) (unblocked (masks rows) k (mask s)) (mask left)
 
 abbrev μ-loop : tie.MeasureT-loop
-μ-loop rows k s free left₀ left = mask left
+μ-loop rows k s left₀ left = mask left
 
 loop-holds : tie.Need-loop-holds Inv-loop μ-loop
 loop-holds c = subst (Walked _ _) (sym (c .before .pre)) (walk-none _ _)

@@ -2,7 +2,7 @@
 use Prim.Native.Nat.{ℕ}
 use mathlib.Core.Path.{sym, ap, _∙_}
 use borrow.Author.Needs.{needs}
-use Rattle.sets.specs.Words.{mask-word}
+use Rattle.sets.specs.Words.Operations.{word-mask}
 use Rattle.judging.specs.Refusal.{answered}
 use Rattle.bounds.specs.Calls.{reachFoundReply}
 use Rattle.bounds.specs.declared.ReachFound.{ReachFound}
@@ -12,6 +12,9 @@ use Rattle.kadvisk.proofs.answer.reach.Tie as tie
 
 enum-known-answer : tie.Need-enum-known-answer
 enum-known-answer c = search needs
+
+word-requires : tie.Need-word-requires
+word-requires c κs = search needs
 
 found-requires : tie.Need-found-requires
 found-requires c κs = search needs
@@ -24,12 +27,13 @@ refused-requires c κs = search needs
 
 returns : tie.Need-returns
 returns c =
+    let told = c .before .before .before .answer .given in
     c .found .ensures
-    ∙ sym (ap (λ (x : ℕ). outcome itself (answered 0 x)) (mask-word (c .before .before .answer .given .0 .0)))
-    ∙ sym (ap (λ (a : ReachFound). outcome itself (reachFoundReply a)) (c .before .before .answer .given .1))
+    ∙ ap (λ (x : ℕ). outcome itself (answered 0 x)) (c .before .word .ensures ∙ word-mask (told .0 .0))
+    ∙ sym (ap (λ (a : ReachFound). outcome itself (reachFoundReply a)) (told .1))
 
 returns-2 : tie.Need-returns-2
 returns-2 c = c .refused .ensures ∙ sym (ap (λ (a : ReachFound). outcome itself (reachFoundReply a)) (c .before .before .answer2 .given .1))
 
 pub reach-spec : {M : Type 1} → statement M
-reach-spec = tie.close (tie.spec enum-known-answer found-requires enum-known-answer-2 refused-requires returns returns-2)
+reach-spec = tie.close (tie.spec enum-known-answer word-requires found-requires enum-known-answer-2 refused-requires returns returns-2)

@@ -92,84 +92,84 @@ module _ (t : ℕ) where
   leaf-requires : branch-lts.Need-leaf-requires (calls t) (branch-at t) branch.Post
   leaf-requires c κs =
       record {
-        below = ready-inside _ _ _ _ _ _ (c .before .before .before .before .before .before .before .before .before .before .pre .1) _ (c .before .before .before .before .before .before .join .ensures) .below;
-        unblocking = survey-free _ _ _ 0 _ _ _ refl (c .before .before .before .survey .ensures);
+        below = ready-inside _ _ _ _ _ _ (c .before .before .before .before .before .before .before .before .before .before .before .pre .1) _ (c .before .before .before .before .before .before .before .join .ensures) .below;
+        unblocking = survey-free _ _ _ 0 _ _ _ refl (c .before .before .before .before .survey .ensures);
       }
 
   same-length : branch-lts.Need-same-length (calls t) (branch-at t) branch.Post
   same-length c = search needs
 
   returns-2 : branch-lts.Need-returns-2 (calls t) (branch-at t) branch.Post
-  returns-2 c = adds-same _ _ _ _ _ _ _ (leaf-adds _ _ _ _ _ _ (c .before .before .before .before .before .before .before .before .before .before .before .before .before .pre .1) _ (c .before .before .before .before .before .before .before .before .before .join .ensures) (survey-plex _ _ _ 0 _ _ _ refl (c .before .before .before .before .before .before .survey .ensures) (c .before .before .before .before .if2 .taken)) (c .before .before .before .before .before .before .before .before .is-short .ensures .1 (c .before .before .before .before .before .before .before .if1 .left))) (c .before .before .leaf .ensures)
+  returns-2 c = adds-same _ _ _ _ _ _ _ (leaf-adds _ _ _ _ _ _ (c .before .before .before .before .before .before .before .before .before .before .before .before .before .before .pre .1) _ (c .before .before .before .before .before .before .before .before .before .before .join .ensures) (survey-plex _ _ _ 0 _ _ _ refl (c .before .before .before .before .before .before .before .survey .ensures) (c .before .before .before .before .if2 .taken)) (c .before .before .before .before .before .before .before .before .before .is-short .ensures .1 (c .before .before .before .before .before .before .before .before .if1 .left))) (c .before .before .leaf .ensures)
 
   is-extendable-requires : branch-lts.Need-is-extendable-requires (calls t) (branch-at t) branch.Post
-  is-extendable-requires c κs = survey-free _ _ _ 0 _ _ _ refl (c .before .before .survey .ensures)
+  is-extendable-requires c κs = survey-free _ _ _ 0 _ _ _ refl (c .before .before .before .survey .ensures)
 
   returns-3 : branch-lts.Need-returns-3 (calls t) (branch-at t) branch.Post
-  returns-3 c = extendable-adds _ _ _ _ _ _ (c .before .before .before .before .before .before .before .before .before .before .before .pre .1) _ (c .before .before .before .before .before .before .before .join .ensures) _ (c .before .is-extendable .ensures (c .if3 .taken))
+  returns-3 c = extendable-adds _ _ _ _ _ _ (c .before .before .before .before .before .before .before .before .before .before .before .before .pre .1) _ (c .before .before .before .before .before .before .before .before .join .ensures) _ (c .before .is-extendable .ensures (c .if3 .taken))
 
   among-requires : branch-lts.Need-among-requires (calls t) (branch-at t) branch.Post
   among-requires c κs =
-      let i = (c .before .before .before .before .survey .ensures) .reached (omega (arith, c .before .before .if2 .left)) .0 in
-      record { vertex = in-below _ _ _ (ready-inside _ _ _ _ _ _ (c .before .before .before .before .before .before .before .before .before .before .before .pre .1) _ (c .before .before .before .before .before .before .before .join .ensures) .below) i; most = (c .before .before .before .before .before .before .before .before .before .before .before .pre .1) .settled .most }
+      let i = (c .before .before .before .before .before .survey .ensures) .reached (omega (arith, c .before .before .if2 .left)) .0 in
+      record { vertex = in-below _ _ _ (ready-inside _ _ _ _ _ _ (c .before .before .before .before .before .before .before .before .before .before .before .before .pre .1) _ (c .before .before .before .before .before .before .before .before .join .ensures) .below) i; most = (c .before .before .before .before .before .before .before .before .before .before .before .before .pre .1) .settled .most }
 
   is-empty-requires : branch-lts.Need-is-empty-requires (calls t) (branch-at t) branch.Post
   is-empty-requires c κs = tt
 
   returns-4 : branch-lts.Need-returns-4 (calls t) (branch-at t) branch.Post
   returns-4 c =
-      let w = (c .before .before .before .before .before .before .before .survey .ensures) .reached (omega (arith, c .before .before .before .before .before .if2 .left)) in
-      stuck-adds _ _ _ _ _ _ (c .before .before .before .before .before .before .before .before .before .before .before .before .before .before .pre .1) _ (c .before .before .before .before .before .before .before .before .before .before .join .ensures) _ (c .before .before .before .before .before .before .before .survey .result .worst) (w .0) (omega (arith, w .1, c .before .before .before .before .before .if2 .left))
+      let w = (c .before .before .before .before .before .before .before .before .survey .ensures) .reached (omega (arith, c .before .before .before .before .before .if2 .left)) in
+      stuck-adds _ _ _ _ _ _ (c .before .before .before .before .before .before .before .before .before .before .before .before .before .before .before .pre .1) _ (c .before .before .before .before .before .before .before .before .before .before .before .join .ensures) _ (c .before .before .before .before .before .before .before .before .survey .result .worst) (w .0) (omega (arith, w .1, c .before .before .before .before .before .if2 .left))
       (c .before .before .among .ensures .none (eqb-true _ _ (sym (c .before .is-empty .ensures) ∙ c .if4 .taken)))
 
   pick-requires : branch-lts.Need-pick-requires (calls t) (branch-at t) branch.Post
   pick-requires c κs =
       record {
         some = positive-of _ (eqb-false _ _ (sym (c .before .is-empty .ensures) ∙ c .if4 .left));
-        below = sub-below _ _ _ (c .before .before .among .ensures .part) ((c .before .before .before .before .before .before .before .before .before .before .before .before .before .before .pre .1) .fine .candidates);
+        below = sub-below _ _ _ (c .before .before .among .ensures .part) ((c .before .before .before .before .before .before .before .before .before .before .before .before .before .before .before .pre .1) .fine .candidates);
       }
 
   without-requires : branch-lts.Need-without-requires (calls t) (branch-at t) branch.Post
-  without-requires c κs = omega (arith, in-below _ _ _ ((c .before .before .before .before .before .before .before .before .before .before .before .before .before .before .before .pre .1) .fine .candidates) (in-of-sub _ _ _ (c .before .before .before .among .ensures .part) (c .pick .ensures)), (c .before .before .before .before .before .before .before .before .before .before .before .before .before .before .before .pre .1) .settled .most)
+  without-requires c κs = omega (arith, in-below _ _ _ ((c .before .before .before .before .before .before .before .before .before .before .before .before .before .before .before .before .pre .1) .fine .candidates) (in-of-sub _ _ _ (c .before .before .before .among .ensures .part) (c .pick .ensures)), (c .before .before .before .before .before .before .before .before .before .before .before .before .before .before .before .before .pre .1) .settled .most)
 
   beside-requires : branch-lts.Need-beside-requires (calls t) (branch-at t) branch.Post
-  beside-requires c κs = ready-joinable _ _ _ _ _ _ (c .before .before .before .before .before .before .before .before .before .before .before .before .before .before .before .before .pre .1) _ (in-of-sub _ _ _ (c .before .before .before .before .among .ensures .part) (c .before .pick .ensures))
+  beside-requires c κs = ready-joinable _ _ _ _ _ _ (c .before .before .before .before .before .before .before .before .before .before .before .before .before .before .before .before .before .pre .1) _ (in-of-sub _ _ _ (c .before .before .before .before .among .ensures .part) (c .before .pick .ensures))
 
   sift-requires : branch-lts.Need-sift-requires (calls t) (branch-at t) branch.Post
-  sift-requires c κs = ready-siftable _ _ _ _ _ _ (c .before .before .before .before .before .before .before .before .before .before .before .before .before .before .before .before .before .pre .1) _ (in-of-sub _ _ _ (c .before .before .before .before .before .among .ensures .part) (c .before .before .pick .ensures)) _ (c .beside .ensures _ refl ((c .before .before .before .before .before .before .before .before .before .before .before .before .before .before .before .before .before .pre .1) .settled .near))
+  sift-requires c κs = ready-siftable _ _ _ _ _ _ (c .before .before .before .before .before .before .before .before .before .before .before .before .before .before .before .before .before .before .pre .1) _ (in-of-sub _ _ _ (c .before .before .before .before .before .among .ensures .part) (c .before .before .pick .ensures)) _ (c .beside .ensures _ refl ((c .before .before .before .before .before .before .before .before .before .before .before .before .before .before .before .before .before .before .pre .1) .settled .near))
 
   branch-requires : branch-lts.Need-branch-requires (calls t) (branch-at t) branch.Post
   branch-requires c κs = (
-    omega (arith, without-falls _ _ _ _ _ _ (c .before .before .before .before .before .before .before .before .before .before .before .before .before .before .before .before .before .before .before .pre .1) _ (in-of-sub _ _ _ (c .before .before .before .before .before .before .before .among .ensures .part) (c .before .before .before .before .pick .ensures)) _ (c .before .sift .ensures) _ (c .before .before .before .without .ensures), c .before .before .before .before .before .before .before .before .before .before .before .before .before .before .before .before .before .before .before .pre .0),
-    without-ready _ _ _ _ _ _ (c .before .before .before .before .before .before .before .before .before .before .before .before .before .before .before .before .before .before .before .pre .1) _ (in-of-sub _ _ _ (c .before .before .before .before .before .before .before .among .ensures .part) (c .before .before .before .before .pick .ensures)) _ (c .before .sift .ensures) _ (c .before .before .before .without .ensures),
+    omega (arith, without-falls _ _ _ _ _ _ (c .before .before .before .before .before .before .before .before .before .before .before .before .before .before .before .before .before .before .before .before .pre .1) _ (in-of-sub _ _ _ (c .before .before .before .before .before .before .before .among .ensures .part) (c .before .before .before .before .pick .ensures)) _ (c .before .sift .ensures) _ (c .before .before .before .without .ensures), c .before .before .before .before .before .before .before .before .before .before .before .before .before .before .before .before .before .before .before .before .pre .0),
+    without-ready _ _ _ _ _ _ (c .before .before .before .before .before .before .before .before .before .before .before .before .before .before .before .before .before .before .before .before .pre .1) _ (in-of-sub _ _ _ (c .before .before .before .before .before .before .before .among .ensures .part) (c .before .before .before .before .pick .ensures)) _ (c .before .sift .ensures) _ (c .before .before .before .without .ensures),
   )
 
   is-bounded-requires : branch-lts.Need-is-bounded-requires (calls t) (branch-at t) branch.Post
-  is-bounded-requires c κs = with-boundable _ _ _ _ _ _ (c .before .before .before .before .before .before .before .before .before .before .before .before .before .before .before .before .before .before .before .before .before .before .pre .1) _ (in-of-sub _ _ _ (c .before .before .before .before .before .before .before .before .before .before .among .ensures .part) (c .before .before .before .before .before .before .before .pick .ensures)) _ (c .before .before .before .before .sift .ensures)
+  is-bounded-requires c κs = with-boundable _ _ _ _ _ _ (c .before .before .before .before .before .before .before .before .before .before .before .before .before .before .before .before .before .before .before .before .before .before .before .pre .1) _ (in-of-sub _ _ _ (c .before .before .before .before .before .before .before .before .before .before .among .ensures .part) (c .before .before .before .before .before .before .before .pick .ensures)) _ (c .before .before .before .before .sift .ensures)
 
   same-length-2 : branch-lts.Need-same-length-2 (calls t) (branch-at t) branch.Post
   same-length-2 c = search needs
 
   returns-5 : branch-lts.Need-returns-5 (calls t) (branch-at t) branch.Post
-  returns-5 c = without-adds _ _ _ _ _ _ (c .before .before .before .before .before .before .before .before .before .before .before .before .before .before .before .before .before .before .before .before .before .before .before .before .pre .1) _ (in-of-sub _ _ _ (c .before .before .before .before .before .before .before .before .before .before .before .before .among .ensures .part) (c .before .before .before .before .before .before .before .before .before .pick .ensures)) _ (c .before .before .before .before .before .before .sift .ensures) _ (c .before .before .before .before .before .before .before .before .without .ensures) _ _ _ (c .before .before .before .before .branch .ensures) (c .before .is-bounded .ensures (c .if5 .taken))
+  returns-5 c = without-adds _ _ _ _ _ _ (c .before .before .before .before .before .before .before .before .before .before .before .before .before .before .before .before .before .before .before .before .before .before .before .before .before .pre .1) _ (in-of-sub _ _ _ (c .before .before .before .before .before .before .before .before .before .before .before .before .among .ensures .part) (c .before .before .before .before .before .before .before .before .before .pick .ensures)) _ (c .before .before .before .before .before .before .sift .ensures) _ (c .before .before .before .before .before .before .before .before .without .ensures) _ _ _ (c .before .before .before .before .branch .ensures) (c .before .is-bounded .ensures (c .if5 .taken))
 
   with-requires : branch-lts.Need-with-requires (calls t) (branch-at t) branch.Post
-  with-requires c κs = omega (arith, in-below _ _ _ ((c .before .before .before .before .before .before .before .before .before .before .before .before .before .before .before .before .before .before .before .before .before .before .before .before .pre .1) .fine .candidates) (in-of-sub _ _ _ (c .before .before .before .before .before .before .before .before .before .before .before .before .among .ensures .part) (c .before .before .before .before .before .before .before .before .before .pick .ensures)), (c .before .before .before .before .before .before .before .before .before .before .before .before .before .before .before .before .before .before .before .before .before .before .before .before .pre .1) .settled .most)
+  with-requires c κs = omega (arith, in-below _ _ _ ((c .before .before .before .before .before .before .before .before .before .before .before .before .before .before .before .before .before .before .before .before .before .before .before .before .before .pre .1) .fine .candidates) (in-of-sub _ _ _ (c .before .before .before .before .before .before .before .before .before .before .before .before .among .ensures .part) (c .before .before .before .before .before .before .before .before .before .pick .ensures)), (c .before .before .before .before .before .before .before .before .before .before .before .before .before .before .before .before .before .before .before .before .before .before .before .before .before .pre .1) .settled .most)
 
   fewer-requires : branch-lts.Need-fewer-requires (calls t) (branch-at t) branch.Post
   fewer-requires c κs = tt
 
   branch-requires-2 : branch-lts.Need-branch-requires-2 (calls t) (branch-at t) branch.Post
   branch-requires-2 c κs = (
-    omega (arith, with-falls _ _ _ _ _ _ (c .before .before .before .before .before .before .before .before .before .before .before .before .before .before .before .before .before .before .before .before .before .before .before .before .before .before .before .pre .1) _ (in-of-sub _ _ _ (c .before .before .before .before .before .before .before .before .before .before .before .before .before .before .before .among .ensures .part) (c .before .before .before .before .before .before .before .before .before .before .before .before .pick .ensures)) _ (c .before .before .before .before .before .before .before .before .before .sift .ensures), c .before .before .before .before .before .before .before .before .before .before .before .before .before .before .before .before .before .before .before .before .before .before .before .before .before .before .before .pre .0),
-    with-ready _ _ _ _ _ _ (c .before .before .before .before .before .before .before .before .before .before .before .before .before .before .before .before .before .before .before .before .before .before .before .before .before .before .before .pre .1) _ (in-of-sub _ _ _ (c .before .before .before .before .before .before .before .before .before .before .before .before .before .before .before .among .ensures .part) (c .before .before .before .before .before .before .before .before .before .before .before .before .pick .ensures)) _ (c .before .before .before .before .before .before .before .before .before .sift .ensures) _ (c .before .before .before .before .before .before .before .before .before .before .before .without .ensures) _ _ _ (c .before .before .before .before .before .before .before .branch .ensures) _ (c .before .before .with .ensures),
+    omega (arith, with-falls _ _ _ _ _ _ (c .before .before .before .before .before .before .before .before .before .before .before .before .before .before .before .before .before .before .before .before .before .before .before .before .before .before .before .before .pre .1) _ (in-of-sub _ _ _ (c .before .before .before .before .before .before .before .before .before .before .before .before .before .before .before .among .ensures .part) (c .before .before .before .before .before .before .before .before .before .before .before .before .pick .ensures)) _ (c .before .before .before .before .before .before .before .before .before .sift .ensures), c .before .before .before .before .before .before .before .before .before .before .before .before .before .before .before .before .before .before .before .before .before .before .before .before .before .before .before .before .pre .0),
+    with-ready _ _ _ _ _ _ (c .before .before .before .before .before .before .before .before .before .before .before .before .before .before .before .before .before .before .before .before .before .before .before .before .before .before .before .before .pre .1) _ (in-of-sub _ _ _ (c .before .before .before .before .before .before .before .before .before .before .before .before .before .before .before .among .ensures .part) (c .before .before .before .before .before .before .before .before .before .before .before .before .pick .ensures)) _ (c .before .before .before .before .before .before .before .before .before .sift .ensures) _ (c .before .before .before .before .before .before .before .before .before .before .before .without .ensures) _ _ _ (c .before .before .before .before .before .before .before .branch .ensures) _ (c .before .before .with .ensures),
   )
 
   same-length-3 : branch-lts.Need-same-length-3 (calls t) (branch-at t) branch.Post
   same-length-3 c = search needs
 
   returns-6 : branch-lts.Need-returns-6 (calls t) (branch-at t) branch.Post
-  returns-6 c = branches-add _ _ _ _ _ _ (c .before .before .before .before .before .before .before .before .before .before .before .before .before .before .before .before .before .before .before .before .before .before .before .before .before .before .before .before .before .before .pre .1) _ (in-of-sub _ _ _ (c .before .before .before .before .before .before .before .before .before .before .before .before .before .before .before .before .before .before .among .ensures .part) (c .before .before .before .before .before .before .before .before .before .before .before .before .before .before .before .pick .ensures)) _ (c .before .before .before .before .before .before .before .before .before .before .before .before .sift .ensures) _ (c .before .before .before .before .before .before .before .before .before .before .before .before .before .before .without .ensures) _ _ _ (c .before .before .before .before .before .before .before .before .before .before .branch .ensures) _ (c .before .before .before .before .before .with .ensures) _ _ (c .before .before .branch2 .ensures)
+  returns-6 c = branches-add _ _ _ _ _ _ (c .before .before .before .before .before .before .before .before .before .before .before .before .before .before .before .before .before .before .before .before .before .before .before .before .before .before .before .before .before .before .before .pre .1) _ (in-of-sub _ _ _ (c .before .before .before .before .before .before .before .before .before .before .before .before .before .before .before .before .before .before .among .ensures .part) (c .before .before .before .before .before .before .before .before .before .before .before .before .before .before .before .pick .ensures)) _ (c .before .before .before .before .before .before .before .before .before .before .before .before .sift .ensures) _ (c .before .before .before .before .before .before .before .before .before .before .before .before .before .before .without .ensures) _ _ _ (c .before .before .before .before .before .before .before .before .before .before .branch .ensures) _ (c .before .before .before .before .before .with .ensures) _ _ (c .before .before .branch2 .ensures)
 
 pub +branch-spec : {M : Type 1} → statement M
 +branch-spec =

@@ -7,10 +7,10 @@ use Rattle.search.proofs.choice.pick.Statement.{statement}
 use Rattle.search.proofs.choice.pick.Tie as tie
 
 abbrev Inv-loop : tie.InvT-loop
-Inv-loop rows a s most₀ best₀ left₀ most best left = Picking (mask s) (mask left) best
+Inv-loop rows a most₀ best₀ left₀ most best left = Picking (mask left₀) (mask left) best
 
 abbrev μ-loop : tie.MeasureT-loop
-μ-loop rows a s most₀ best₀ left₀ most best left = mask left
+μ-loop rows a most₀ best₀ left₀ most best left = mask left
 
 lowest-requires : tie.Need-lowest-requires Inv-loop μ-loop
 lowest-requires c κs = c .before .pre .some

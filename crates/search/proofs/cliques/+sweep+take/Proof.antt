@@ -56,12 +56,12 @@ abbrev take-below : ℕ → In 2 take-kinds.ps
 take-below t = and 2 take-kinds.ps (falls 2 take-kinds.ps _<_ μ-take t) take.Pre
 
 abbrev Inv-loop : sweep-lts.InvT-loop
-Inv-loop rows q have s base m todo slots₀ count more waiting₀ left₀ n₀ slots waiting left n =
-    Swept (masks rows) (request 1 q) have (mask s) (mask base) (mask m) (mask todo) (masks slots₀) count
+Inv-loop rows q have s m slots₀ count more waiting₀ left₀ n₀ slots waiting left n =
+    Swept (masks rows) (request 1 q) have (mask s) (mask waiting₀) (mask m) (mask left₀) (masks slots₀) count
     (mask waiting) (mask left) (masks slots) n × (length slots ≡ length slots₀)
 
 abbrev μ-loop : sweep-lts.MeasureT-loop
-μ-loop rows q have s base m todo slots₀ count more waiting₀ left₀ n₀ slots waiting left n = mask left
+μ-loop rows q have s m slots₀ count more waiting₀ left₀ n₀ slots waiting left n = mask left
 
 -- what the callees ask and give
 abbrev sweep-calls : ℕ → sweep-lts.Claims

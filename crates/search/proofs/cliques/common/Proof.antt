@@ -10,10 +10,10 @@ use Rattle.search.proofs.cliques.common.Statement.{statement}
 use Rattle.search.proofs.cliques.common.Tie as tie
 
 abbrev Inv-loop : tie.InvT-loop
-Inv-loop rows s shared₀ left₀ shared left = Sharing (masks rows) (mask left₀) (mask left) (mask shared)
+Inv-loop rows shared₀ left₀ shared left = Sharing (masks rows) (mask left₀) (mask left) (mask shared)
 
 abbrev μ-loop : tie.MeasureT-loop
-μ-loop rows s shared₀ left₀ shared left = mask left
+μ-loop rows shared₀ left₀ shared left = mask left
 
 count-requires : tie.Need-count-requires Inv-loop μ-loop
 count-requires c κs = search needs

@@ -8,10 +8,10 @@ use Rattle.search.proofs.cliques.pivot.Statement.{statement}
 use Rattle.search.proofs.cliques.pivot.Tie as tie
 
 abbrev Inv-loop : tie.InvT-loop
-Inv-loop rows c m few best₀ fewest₀ left₀ best fewest left = Pivoting (masks rows) (mask c) (mask m) (mask left) (mask best)
+Inv-loop rows c few best₀ fewest₀ left₀ best fewest left = Pivoting (masks rows) (mask c) (mask left₀) (mask left) (mask best)
 
 abbrev μ-loop : tie.MeasureT-loop
-μ-loop rows c m few best₀ fewest₀ left₀ best fewest left = mask left
+μ-loop rows c few best₀ fewest₀ left₀ best fewest left = mask left
 
 loop-holds : tie.Need-loop-holds Inv-loop μ-loop
 loop-holds c = pivoting-none _ _ _ (c .before .pre)

@@ -1,15 +1,16 @@
 -- `search::near::fill` meets its contract. After v turns the first v rows are those of the cut that is switched on, each of which is near.
 use Prim.Native.Nat.{_-_}
+use mathlib.Core.Path.{_≡_, refl, _∙_}
+use lib.ListN.{length}
 use native.Mathlib.Omega.{arith}
 use Rattle.sets.specs.Words.{mask, masks}
-use Rattle.sets.specs.Words.Operations.{count-masks}
 use Rattle.search.specs.NearRows.{nearRow, Written}
 use Rattle.search.specs.NearLaws.{written-none, written-more, written-filled}
 use Rattle.search.proofs.near.fill.Statement.{statement}
 use Rattle.search.proofs.near.fill.Tie as tie
 
 abbrev Inv-loop : tie.InvT-loop
-Inv-loop rows k q core reach pairs near₀ n v₀ near v = Written (nearRow (masks rows) k q (mask core) reach pairs) v (masks near₀) (masks near)
+Inv-loop rows k q core reach pairs near₀ n v₀ near v = Written (nearRow (masks rows) k q (mask core) reach pairs) v (masks near₀) (masks near) × (length near ≡ length near₀)
 
 abbrev μ-loop : tie.MeasureT-loop
 μ-loop rows k q core reach pairs near₀ n v₀ near v = n - v
@@ -18,7 +19,7 @@ count-requires : tie.Need-count-requires Inv-loop μ-loop
 count-requires c κs = tt
 
 loop-holds : tie.Need-loop-holds Inv-loop μ-loop
-loop-holds c = written-none _ _
+loop-holds c = (written-none _ _, refl)
 
 near-row-requires : tie.Need-near-row-requires Inv-loop μ-loop
 near-row-requires c κs =
@@ -26,7 +27,7 @@ near-row-requires c κs =
     (pairing .pairable, pairing .valid, omega arith)
 
 put-requires : tie.Need-put-requires Inv-loop μ-loop
-put-requires c κs = omega arith
+put-requires c κs = omega (arith, c .before .before .before .loop .inv .0 .long)
 
 add-v : tie.Need-add-v Inv-loop μ-loop
 add-v c = omega arith
@@ -37,15 +38,16 @@ loop-less c = omega arith
 loop-again : tie.Need-loop-again Inv-loop μ-loop
 loop-again c =
     let called = c .before .before in
-    written-more _ _ _ _ _ _ (omega arith) (called .before .near-row .ensures) (called .put .ensures) (called .before .before .before .before .loop .inv)
+    let v = called .before .before .before .before .loop in
+    (written-more _ _ _ _ _ _ (omega (arith, v .inv .0 .long, c .before .before .before .before .before .before .before .before .before .before .pre .0 .room)) (called .before .near-row .ensures) (called .put .ensures) (v .inv .0), called .put .kept .0 ∙ v .inv .1)
 
 same-length : tie.Need-same-length Inv-loop μ-loop
-same-length c = omega (arith, count-masks (c .before .loop .near), count-masks (c .before .before .before .before .before .args .near .now), c .before .loop .inv .long)
+same-length c = c .before .loop .inv .1
 
 returns : tie.Need-returns Inv-loop μ-loop
 returns c =
     let pre = c .before .before .before .before .before .pre in
-    written-filled _ _ _ _ _ _ _ _ (pre .1) (pre .2) (omega arith) (c .before .loop .inv)
+    written-filled _ _ _ _ _ _ _ _ (pre .1) (pre .2) (omega arith) (c .before .loop .inv .0)
 
 pub fill-spec : {M : Type 1} → statement M
 fill-spec = tie.close (tie.spec Inv-loop μ-loop count-requires loop-holds near-row-requires put-requires add-v loop-less loop-again same-length returns)

@@ -12,10 +12,10 @@ use Rattle.search.proofs.partition.falls_short.Statement.{statement}
 use Rattle.search.proofs.partition.falls_short.Tie as tie
 
 abbrev Inv-loop : tie.InvT-loop
-Inv-loop rows k q s a n r₀ room₀ left₀ r room left = Bounding (masks rows) k q (mask s) (mask a) (mask left) (mask r) room
+Inv-loop rows k q s n r₀ room₀ left₀ r room left = Bounding (masks rows) k q (mask s) (mask r₀) (mask left) (mask r) room
 
 abbrev μ-loop : tie.MeasureT-loop
-μ-loop rows k q s a n r₀ room₀ left₀ r room left = size (mask left)
+μ-loop rows k q s n r₀ room₀ left₀ r room left = size (mask left)
 
 size-requires : tie.Need-size-requires Inv-loop μ-loop
 size-requires c κs = tt
@@ -51,12 +51,12 @@ meet-requires : tie.Need-meet-requires Inv-loop μ-loop
 meet-requires c κs = tt
 
 loop-less : tie.Need-loop-less Inv-loop μ-loop
-loop-less c = left-falls _ _ _ _ _ _ _ (c .before .before .before .before .before .before .before .pick .ensures) (c .before .before .before .before .before .if3 .left)
+loop-less c = left-falls _ _ _ _ _ _ _ (c .before .before .before .before .before .before .before .before .pick .ensures) (c .before .before .before .before .before .before .if3 .left)
 
 loop-again : tie.Need-loop-again Inv-loop μ-loop
 loop-again c =
-    bounding-more _ _ _ _ _ _ _ _ _ _ _ _ (c .before .before .before .before .before .before .before .before .before .before .loop .inv) (c .before .before .before .before .before .before .before .pick .ensures) (c .before .before .before .before .before .if3 .left) (c .before .before .before .if4 .left)
-    (c .meet .ensures ∙ ap (bitAnd (mask (c .before .before .before .before .before .before .before .before .before .before .loop .r))) (c .before .join .ensures ∙ ap (λ (x : ℕ). bitOr x (mask (c .before .before .before .before .before .before .before .before .before .before .before .before .before .before .args .s))) (c .before .before .get .ensures)))
+    bounding-more _ _ _ _ _ _ _ _ _ _ _ _ (c .before .before .before .before .before .before .before .before .before .before .before .loop .inv) (c .before .before .before .before .before .before .before .before .pick .ensures) (c .before .before .before .before .before .before .if3 .left) (c .before .before .before .before .if4 .left)
+    (c .before .meet .ensures ∙ ap (bitAnd (mask (c .before .before .before .before .before .before .before .before .before .before .before .loop .r))) (c .before .before .join .ensures ∙ ap (λ (x : ℕ). bitOr x (mask (c .before .before .before .before .before .before .before .before .before .before .before .before .before .before .before .args .s))) (c .before .before .before .get .ensures)))
 
 returns-4 : tie.Need-returns-4 Inv-loop μ-loop
 returns-4 c e = absurd (false≢true e)

@@ -6,10 +6,10 @@ use Rattle.search.proofs.partition.pick.Statement.{statement}
 use Rattle.search.proofs.partition.pick.Tie as tie
 
 abbrev Inv-loop : tie.InvT-loop
-Inv-loop rows k r left best₀ most₀ kept₀ todo₀ best most kept todo = Picking (masks rows) k (mask r) (mask left) (mask todo) (mask kept) best most
+Inv-loop rows k r best₀ most₀ kept₀ todo₀ best most kept todo = Picking (masks rows) k (mask r) (mask todo₀) (mask todo) (mask kept) best most
 
 abbrev μ-loop : tie.MeasureT-loop
-μ-loop rows k r left best₀ most₀ kept₀ todo₀ best most kept todo = mask todo
+μ-loop rows k r best₀ most₀ kept₀ todo₀ best most kept todo = mask todo
 
 empty-requires : tie.Need-empty-requires Inv-loop μ-loop
 empty-requires c κs = tt

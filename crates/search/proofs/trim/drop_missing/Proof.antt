@@ -7,10 +7,10 @@ use Rattle.search.proofs.trim.drop_missing.Statement.{statement}
 use Rattle.search.proofs.trim.drop_missing.Tie as tie
 
 abbrev Inv-loop : tie.InvT-loop
-Inv-loop rows k s c v kept₀ left₀ kept left = Cheapening (masks rows) k (mask s) v (mask c) (mask left) (mask kept)
+Inv-loop rows k s v kept₀ left₀ kept left = Cheapening (masks rows) k (mask s) v (mask kept₀) (mask left) (mask kept)
 
 abbrev μ-loop : tie.MeasureT-loop
-μ-loop rows k s c v kept₀ left₀ kept left = mask left
+μ-loop rows k s v kept₀ left₀ kept left = mask left
 
 get-requires : tie.Need-get-requires Inv-loop μ-loop
 get-requires c κs = c .before .pre .vertex

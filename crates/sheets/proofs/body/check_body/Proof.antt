@@ -1,15 +1,18 @@
 -- `sheets::body::check_body` meets its contract: the lines first, and then the rows, which a table of its own takes.
 use native.Mathlib.Omega.{arith}
-use Prim.Native.Nat.{ℕ}
+use Prim.Native.Nat.{ℕ, _*_, _≤_}
 use mathlib.Core.Path.{_≡_, sym, ap, _∙_}
 use denote.Ref.{now}
 use mathlib.Core.List.{List}
-use lib.ListN.{length, drop, replicate}
+use lib.ListN.{length, drop}
 use lib.Seq.{length-take-le}
-use Rattle.sets.specs.Words.{width, masks}
-use Rattle.sheets.specs.Lines.{numbers}
+use Rattle.sets.specs.Words.{perSet, width, masks}
+use Rattle.sets.specs.Words.Groups.{blank}
+use Rattle.sets.specs.Words.Operations.{offset-fits}
+use Rattle.sheets.specs.Lines.{rightLines, numbers}
 use Rattle.sheets.specs.Sheet.{rowDigits}
-use Rattle.sheets.specs.BodyLaws.{line-refused, all-right, after-refused, lines-passed, taken-rows, taken-lines, front-fits, front-length, front-sized, front-judged}
+use Rattle.sheets.specs.BodyLaws.{line-refused, all-right, after-refused, lines-passed, table-rows, taken-rows, taken-lines}
+use Rattle.sheets.specs.BodyLaws.{front-fits, front-length, front-sized, front-judged}
 use borrow.Author.Needs.{needs}
 use Rattle.sheets.proofs.body.check_body.Statement.{statement}
 use Rattle.sheets.proofs.body.check_body.Tie as tie
@@ -17,8 +20,8 @@ use Rattle.sheets.proofs.body.check_body.Tie as tie
 right-rows-requires : tie.Need-right-rows-requires
 right-rows-requires c κs = search needs
 
-add-t6 : tie.Need-add-t6
-add-t6 c = search needs
+add-t7 : tie.Need-add-t7
+add-t7 c = search needs
 
 returns : tie.Need-returns
 returns c = let s = c .before .before .before in line-refused (s .args .n) (c .before .right-rows .result) (now (s .args .text)) (c .before .right-rows .ensures) (omega arith)
@@ -26,73 +29,113 @@ returns c = let s = c .before .before .before in line-refused (s .args .n) (c .b
 mul-if2 : tie.Need-mul-if2
 mul-if2 c = search needs
 
-add-t10 : tie.Need-add-t10
-add-t10 c = search needs
+add-t11 : tie.Need-add-t11
+add-t11 c = search needs
 
 returns-2 : tie.Need-returns-2
 returns-2 c =
     let s = c .before .before .before .before in
     after-refused (s .args .n) (c .before .before .right-rows .result) (now (s .args .text)) (c .before .before .right-rows .ensures) (omega arith) (omega arith)
 
+-- the table before a row is stored
+abbrev table : List ℕ
+table = blank (width * perSet)
+
+slice-aggregate-offset : tie.Need-slice-aggregate-offset
+slice-aggregate-offset c = search needs
+
+offset-requires : tie.Need-offset-requires
+offset-requires c κs = let s = c .before .before .before .before .before in table-rows (s .args .n) (s .pre .1)
+
+-- the part that is lent: n sets up to the word `end`
+abbrev start : tie.After-offset → tie.Start
+start c = c .before .before .before .before .before .before
+
+abbrev end : tie.After-offset → ℕ
+end c = c .offset .result
+
+room : (c : tie.After-offset) → start c .args .n ≤ length (masks table)
+room c = table-rows (start c .args .n) (start c .pre .1)
+
+long : (c : tie.After-offset) → end c ≤ length table
+long c = offset-fits (start c .args .n) (end c) table (c .offset .ensures) (room c)
+
+right : (c : tie.After-offset) → rightLines rowDigits (start c .args .n) (now (start c .args .text)) ≡ start c .args .n
+right c =
+    let found = c .before .before .before .before .right-rows in
+    all-right (start c .args .n) (found .result) (now (start c .args .text)) (found .ensures) (omega arith)
+
 array-borrow-prefix-table : tie.Need-array-borrow-prefix-table
-array-borrow-prefix-table c = search needs
+array-borrow-prefix-table c = long c
 
 slice-aggregate-store-rows : tie.Need-slice-aggregate-store-rows
-slice-aggregate-store-rows c = sym (length-take-le (c .before .before .before .before .before .args .n) (replicate width 0) (omega arith))
+slice-aggregate-store-rows c = sym (length-take-le (end (c .before)) table (long (c .before)))
 
 store-rows-requires : tie.Need-store-rows-requires
 store-rows-requires c κs =
-    let s = c .before .before .before .before .before in
-    taken-lines (s .args .n) (replicate width 0) (now (s .args .text)) (omega arith) (s .pre .1)
-    (all-right (s .args .n) (c .before .before .before .right-rows .result) (now (s .args .text)) (c .before .before .before .right-rows .ensures) (omega arith))
+    let s = start (c .before) in
+    taken-lines (s .args .n) (end (c .before)) (c .before .offset .ensures) table (now (s .args .text)) (room (c .before)) (s .pre .1) (right (c .before))
 
 -- the table once the rows are stored: its front, and what stands behind them
-abbrev size : tie.After-store-rows → ℕ
-size c = c .before .before .before .before .before .before .args .n
+abbrev lent : tie.After-store-rows → tie.After-offset
+lent c = c .before .before
 
 abbrev stored : tie.After-store-rows → List ℕ
 stored c = c .store-rows .last .1 .0
 
 abbrev behind : tie.After-store-rows → List ℕ
-behind c = drop (size c) (replicate width 0)
+behind c = drop (end (lent c)) table
 
-table-long : (c : tie.After-store-rows) → length (stored c) ≡ size c
-table-long c = c .store-rows .kept .1 .0 ∙ length-take-le (size c) (replicate width 0) (omega arith)
+stored-long : (c : tie.After-store-rows) → length (stored c) ≡ end (lent c)
+stored-long c = c .store-rows .kept .1 .0 ∙ length-take-le (end (lent c)) table (long (lent c))
 
-table-rows : (c : tie.After-store-rows) → masks (stored c) ≡ numbers rowDigits (size c) (now (c .before .before .before .before .before .before .args .text))
-table-rows c =
-    let s = c .before .before .before .before .before .before in
-    c .store-rows .ensures ∙ ap (λ (m : ℕ). numbers rowDigits m (now (s .args .text))) (taken-rows (s .args .n) (replicate width 0) (omega arith))
+stored-rows : (c : tie.After-store-rows) → masks (stored c) ≡ numbers rowDigits (start (lent c) .args .n) (now (start (lent c) .args .text))
+stored-rows c =
+    let s = start (lent c) in
+    c .store-rows .ensures
+    ∙ ap (λ (m : ℕ). numbers rowDigits m (now (s .args .text))) (taken-rows (s .args .n) (end (lent c)) (lent c .offset .ensures) table (room (lent c)))
 
 array-share-prefix-table : tie.Need-array-share-prefix-table
-array-share-prefix-table c = front-fits (size (c .before)) (stored (c .before)) (behind (c .before)) (table-long (c .before))
+array-share-prefix-table c =
+    let at = lent (c .before) in
+    front-fits (start at .args .n) (end at) (at .offset .ensures) (stored (c .before)) (behind (c .before)) (stored-long (c .before))
 
 slice-aggregate-check-edges : tie.Need-slice-aggregate-check-edges
-slice-aggregate-check-edges c = front-length (size (c .before .before)) (stored (c .before .before)) (behind (c .before .before)) (table-long (c .before .before))
+slice-aggregate-check-edges c =
+    let store = c .before .before in
+    let at = lent store in
+    front-length (start at .args .n) (end at) (at .offset .ensures) (stored store) (behind store) (stored-long store)
 
 check-edges-requires : tie.Need-check-edges-requires
 check-edges-requires c κs =
-    let s = c .before .before .before .before .before .before .before .before in
-    front-sized (size (c .before .before)) (stored (c .before .before)) (behind (c .before .before)) (table-long (c .before .before)) (s .pre .0) (s .pre .1)
+    let store = c .before .before in
+    let at = lent store in
+    let s = start at in
+    front-sized (s .args .n) (end at) (at .offset .ensures) (stored store) (behind store) (stored-long store) (s .pre .0) (s .pre .1)
 
 returns-3 : tie.Need-returns-3
 returns-3 c =
-    let s = c .before .before .before .before .before .before .before .before .before in
-    let right = c .before .before .before .before .before .before .before .right-rows in
+    let store = c .before .before .before in
+    let at = lent store in
+    let s = start at in
+    let found = at .before .before .before .before .right-rows in
+    let g = numbers rowDigits (s .args .n) (now (s .args .text)) in
     c .check-edges .ensures
-    ∙ front-judged (size (c .before .before .before)) (stored (c .before .before .before)) (behind (c .before .before .before)) (table-long (c .before .before .before)) (numbers rowDigits (s .args .n) (now (s .args .text))) (table-rows (c .before .before .before))
-    ∙ lines-passed (s .args .n) (right .result) (now (s .args .text)) (right .ensures) (omega arith) (omega arith)
+    ∙ front-judged (s .args .n) (end at) (at .offset .ensures) (stored store) (behind store) (stored-long store) g (stored-rows store)
+    ∙ lines-passed (s .args .n) (found .result) (now (s .args .text)) (found .ensures) (omega arith) (omega arith)
 
 pub check-body-spec : {M : Type 1} → statement M
 check-body-spec =
     tie.close
     (tie.spec
     right-rows-requires
-    add-t6
+    add-t7
     returns
     mul-if2
-    add-t10
+    add-t11
     returns-2
+    slice-aggregate-offset
+    offset-requires
     array-borrow-prefix-table
     slice-aggregate-store-rows
     store-rows-requires

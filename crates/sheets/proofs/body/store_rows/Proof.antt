@@ -6,7 +6,7 @@ use mathlib.Core.Path.{_≡_, refl, _∙_}
 use mathlib.Core.List.{_++_}
 use denote.Ref.{now}
 use lib.ListN.{length, drop, length-take}
-use Rattle.sets.specs.Words.{mask, masks, mask-word}
+use Rattle.sets.specs.Words.{mask, masks}
 use Rattle.sheets.specs.Lines.{numbers}
 use Rattle.sheets.specs.Sheet.{rowDigits, rowLength}
 use Rattle.sheets.specs.LineLaws.{line-fits, line-digits, store-start, store-more, store-all}
@@ -33,19 +33,19 @@ mul-at c = omega arith
 add-end : tie.Need-add-end Inv-loop μ-loop
 add-end c = omega arith
 
-sub-number : tie.Need-sub-number Inv-loop μ-loop
-sub-number c = omega arith
+sub-read-row : tie.Need-sub-read-row Inv-loop μ-loop
+sub-read-row c = omega arith
 
-part-number-start : tie.Need-part-number-start Inv-loop μ-loop
-part-number-start c = omega arith
+part-read-row-start : tie.Need-part-read-row-start Inv-loop μ-loop
+part-read-row-start c = omega arith
 
-part-number-end : tie.Need-part-number-end Inv-loop μ-loop
-part-number-end c =
+part-read-row-end : tie.Need-part-read-row-end Inv-loop μ-loop
+part-read-row-end c =
     let s = c .before .before .before .before .before .before .before in
     omega (arith, line-fits rowDigits (length (masks (now (s .args .rows)))) (c .before .before .loop .a) (now (s .args .text)) (s .pre .right) (omega arith))
 
-number-requires : tie.Need-number-requires Inv-loop μ-loop
-number-requires c κs =
+read-row-requires : tie.Need-read-row-requires Inv-loop μ-loop
+read-row-requires c κs =
     let s = c .before .before .before .before .before .before .before .before in
     let a = c .before .before .before .loop .a in
     let t = now (s .args .text) in
@@ -72,8 +72,8 @@ loop-again c =
       at .inv .1,
       c .before .before .put .kept .0 ∙ at .inv .2,
       c .before .before .put .ensures
-          ∙ store-more rowDigits (at .a) (mask (c .before .before .before .number .result)) (now (s .args .text)) ms (masks (at .rows)) (omega arith) (at .inv .3)
-          (mask-word (c .before .before .before .number .result) ∙ c .before .before .before .number .ensures),
+          ∙ store-more rowDigits (at .a) (mask (c .before .before .before .read-row .result)) (now (s .args .text)) ms (masks (at .rows)) (omega arith) (at .inv .3)
+          (c .before .before .before .read-row .ensures),
     )
 
 same-length : tie.Need-same-length Inv-loop μ-loop
@@ -94,10 +94,10 @@ store-rows-spec =
     loop-holds
     mul-at
     add-end
-    sub-number
-    part-number-start
-    part-number-end
-    number-requires
+    sub-read-row
+    part-read-row-start
+    part-read-row-end
+    read-row-requires
     put-requires
     add-a
     loop-less

@@ -15,8 +15,14 @@ abbrev μ-loop : tie.MeasureT-loop
 loop-holds : tie.Need-loop-holds Inv-loop μ-loop
 loop-holds c = search needs
 
+of-word-requires : tie.Need-of-word-requires Inv-loop μ-loop
+of-word-requires c κs = search needs
+
 is-inside-requires : tie.Need-is-inside-requires Inv-loop μ-loop
 is-inside-requires c κs = search needs
+
+of-word-requires-2 : tie.Need-of-word-requires-2 Inv-loop μ-loop
+of-word-requires-2 c κs = search needs
 
 keep-maximal-requires : tie.Need-keep-maximal-requires Inv-loop μ-loop
 keep-maximal-requires c κs = search needs
@@ -49,7 +55,9 @@ list-spec =
     Inv-loop
     μ-loop
     loop-holds
+    of-word-requires
     is-inside-requires
+    of-word-requires-2
     keep-maximal-requires
     add-s
     loop-less

@@ -1,4 +1,4 @@
--- `trials::words::all_are` is safe and ends: each turn leaves fewer words.
+-- `trials::words::all_are` is safe and ends: each turn leaves fewer sets.
 use Prim.Native.Nat.{_-_}
 use borrow.Author.Needs.{needs}
 use Rattle.trials.proofs.words.all_are.Statement.{statement}
@@ -18,6 +18,9 @@ loop-holds c = search needs
 
 at-requires : tie.Need-at-requires Inv-loop μ-loop
 at-requires c κs = search needs
+
+is-requires : tie.Need-is-requires Inv-loop μ-loop
+is-requires c κs = search needs
 
 returns : tie.Need-returns Inv-loop μ-loop
 returns c = search needs
@@ -43,6 +46,7 @@ all-are-spec =
     count-requires
     loop-holds
     at-requires
+    is-requires
     returns
     add-i
     loop-less

@@ -1,4 +1,4 @@
--- `trials::words::fill` is safe and ends: each turn leaves fewer words.
+-- `trials::words::fill` is safe and ends: each turn leaves fewer sets.
 use lib.ListN.{length}
 use Prim.Native.Nat.{_-_}
 use mathlib.Core.Path.{_≡_}
@@ -17,6 +17,9 @@ count-requires c κs = search needs
 
 loop-holds : tie.Need-loop-holds Inv-loop μ-loop
 loop-holds c = search needs
+
+of-word-requires : tie.Need-of-word-requires Inv-loop μ-loop
+of-word-requires c κs = search needs
 
 store-requires : tie.Need-store-requires Inv-loop μ-loop
 store-requires c κs = search needs
@@ -44,6 +47,7 @@ fill-spec =
     μ-loop
     count-requires
     loop-holds
+    of-word-requires
     store-requires
     add-i
     loop-less

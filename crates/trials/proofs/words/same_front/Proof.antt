@@ -1,4 +1,4 @@
--- `trials::words::same_front` is safe and ends: each turn leaves fewer words.
+-- `trials::words::same_front` is safe and ends: each turn leaves fewer sets.
 use Prim.Native.Nat.{_-_}
 use borrow.Author.Needs.{needs}
 use Rattle.trials.proofs.words.same_front.Statement.{statement}
@@ -28,6 +28,9 @@ at-requires c κs = search needs
 at-requires-2 : tie.Need-at-requires-2 Inv-loop μ-loop
 at-requires-2 c κs = search needs
 
+same-requires : tie.Need-same-requires Inv-loop μ-loop
+same-requires c κs = search needs
+
 returns-2 : tie.Need-returns-2 Inv-loop μ-loop
 returns-2 c = search needs
 
@@ -55,6 +58,7 @@ same-front-spec =
     loop-holds
     at-requires
     at-requires-2
+    same-requires
     returns-2
     add-i
     loop-less

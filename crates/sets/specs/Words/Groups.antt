@@ -1,0 +1,113 @@
+-- Laws of lent words that hold a number in each group of w words: reading, storing, parts, blank words. They hold for any w.
+use Prim.Native.Nat.{ℕ, zero, suc, _+_, _-_, _*_, _≤_, _<_}
+use native.Mathlib.Omega.{arith}
+use mathlib.Core.Path.{_≡_, refl, sym, ap, ap₂, _∙_}
+use mathlib.Core.List.{List, [], _∷_, _++_, append-assoc}
+use lib.ListN.{length, getD, take, drop, set, length-drop, length-replicate, replicate, replicate-append-replicate, take-append-drop}
+use lib.Seq.{sets, sets-eq, drop-drop, drop-cons, take-append-le, drop-append-le, take-at, drop-at, set-at, length-take-le}
+use Rattle.sets.specs.Words.{number, groups}
+use Rattle.sets.specs.Words.Numbers.{Zeros, zeros-number}
+
+module _ (w : ℕ) where
+  pub length-groups : (c : ℕ) (ws : List ℕ) → length (groups w c ws) ≡ c
+  unfolding groups
+  length-groups zero ws = refl
+  length-groups (suc c) ws = ap suc (length-groups c (drop w ws))
+
+  pub get-groups : (c i : ℕ) (ws : List ℕ) → i < c → getD (groups w c ws) i 0 ≡ number (take w (drop (i * w) ws))
+  unfolding groups
+  get-groups zero i ws l = absurd (omega arith)
+  get-groups (suc c) zero ws l =
+      let e : 0 ≡ 0 * w = omega arith in
+      ap (λ (k : ℕ). number (take w (drop k ws))) e
+  get-groups (suc c) (suc i) ws l =
+      let e : w + i * w ≡ suc i * w = omega arith in
+      get-groups c i (drop w ws) (omega arith)
+      ∙ ap (λ (t : List ℕ). number (take w t)) (drop-drop (i * w) w ws ∙ ap (λ (k : ℕ). drop k ws) e)
+
+  -- ---- parts
+
+  pub append-groups : (m c : ℕ) (vs ws : List ℕ) → length vs ≡ m * w → groups w (m + c) (vs ++ ws) ≡ groups w m vs ++ groups w c ws
+  unfolding groups
+  append-groups zero c [] ws e =
+      let z : 0 + c ≡ c = omega arith in
+      ap (λ (k : ℕ). groups w k ws) z
+  append-groups zero c (x ∷ vs) ws e = absurd (omega (arith, e))
+  append-groups (suc m) c vs ws e =
+      let z : suc m + c ≡ suc (m + c) = omega arith in
+      let l : w ≤ length vs = omega (arith, e) in
+      ap (λ (k : ℕ). groups w k (vs ++ ws)) z
+      ∙ ap₂ (λ (s t : List ℕ). number s ∷ groups w (m + c) t) (take-append-le w vs ws l) (drop-append-le w vs ws l)
+      ∙ ap (λ (t : List ℕ). number (take w vs) ∷ t) (append-groups m c (drop w vs) ws (omega (arith, e, length-drop w vs)))
+
+  -- the groups before position n, and those from there on
+  pub split-groups : (n c : ℕ) (ws : List ℕ) → n * w ≤ length ws
+      → groups w (n + c) ws ≡ groups w n (take (n * w) ws) ++ groups w c (drop (n * w) ws)
+  split-groups n c ws l =
+      ap (groups w (n + c)) (sym (take-append-drop (n * w) ws))
+      ∙ append-groups n c (take (n * w) ws) (drop (n * w) ws) (length-take-le (n * w) ws l)
+
+  pub take-groups : (n c : ℕ) (ws : List ℕ) → n * w ≤ length ws → groups w n (take (n * w) ws) ≡ take n (groups w (n + c) ws)
+  take-groups n c ws l = sym (ap (take n) (split-groups n c ws l) ∙ take-at _ _ n (length-groups n (take (n * w) ws)))
+
+  pub drop-groups : (n c : ℕ) (ws : List ℕ) → groups w (c - n) (drop (n * w) ws) ≡ drop n (groups w c ws)
+  unfolding groups
+  drop-groups zero c ws =
+      let z : 0 * w ≡ 0 = omega arith in
+      let y : c - 0 ≡ c = omega arith in
+      ap₂ (λ (m k : ℕ). groups w m (drop k ws)) y z
+  drop-groups (suc n) zero ws =
+      let y : 0 - suc n ≡ 0 = omega arith in
+      ap (λ (m : ℕ). groups w m (drop (suc n * w) ws)) y
+  drop-groups (suc n) (suc c) ws =
+      let z : suc n * w ≡ w + n * w = omega arith in
+      let y : suc c - suc n ≡ c - n = omega arith in
+      ap₂ (λ (m k : ℕ). groups w m (drop k ws)) y z
+      ∙ ap (groups w (c - n)) (sym (drop-drop (n * w) w ws)) ∙ drop-groups n c (drop w ws)
+
+-- ---- a group read word by word, and stored word by word
+
+unfoldable pub reads : ℕ → List ℕ → ℕ → List ℕ
+reads zero ws k = []
+reads (suc w) ws k = getD ws k 0 ∷ reads w ws (suc k)
+
+pub take-reads : (w : ℕ) (ws : List ℕ) (k : ℕ) → k + w ≤ length ws → take w (drop k ws) ≡ reads w ws k
+unfolding reads
+take-reads zero ws k l = refl
+take-reads (suc w) ws k l =
+    ap (take (suc w)) (drop-cons ws k 0 (omega arith))
+    ∙ ap (λ (t : List ℕ). getD ws k 0 ∷ t) (take-reads w ws (suc k) (omega arith))
+
+pub put-groups : (w i c : ℕ) (ws xs : List ℕ) → length xs ≡ w → (i + suc c) * w ≤ length ws
+    → groups w (i + suc c) (sets ws (i * w) xs) ≡ set (groups w (i + suc c) ws) i (number xs)
+unfolding groups
+put-groups w i c ws xs e l =
+    let d = drop (i * w + length xs) ws in
+    let same : i * w + length xs ≡ i * w + w = omega (arith, e) in
+    ap (groups w (i + suc c)) (sets-eq xs ws (i * w) (omega (arith, e)))
+    ∙ ap (groups w (i + suc c)) (append-assoc (take (i * w) ws) xs d)
+    ∙ append-groups w i (suc c) (take (i * w) ws) (xs ++ d) (length-take-le (i * w) ws (omega arith))
+    ∙ ap (λ (t : List ℕ). groups w i (take (i * w) ws) ++ t)
+    (ap₂ (λ (s t : List ℕ). number s ∷ groups w c t) (take-at xs d w e) (drop-at xs d w e ∙ ap (λ (m : ℕ). drop m ws) same ∙ sym (drop-drop w (i * w) ws)))
+    ∙ sym (ap (λ (t : List ℕ). set t i (number xs)) (split-groups w i (suc c) ws (omega arith))
+    ∙ set-at (groups w i (take (i * w) ws)) _ _ (number xs) i (length-groups w i (take (i * w) ws)))
+
+-- ---- blank words
+
+abbrev pub blank : ℕ → List ℕ
+blank n = replicate n 0
+
+blank-zeros : (w : ℕ) → Zeros (blank w)
+blank-zeros zero = tt
+blank-zeros (suc w) = (refl, blank-zeros w)
+
+pub blank-groups : (w n : ℕ) → groups w n (blank (n * w)) ≡ blank n
+unfolding groups
+blank-groups w zero = refl
+blank-groups w (suc n) =
+    let z : suc n * w ≡ w + n * w = omega arith in
+    let e : length (blank w) ≡ w = length-replicate w 0 in
+    ap (λ (m : ℕ). groups w (suc n) (blank m)) z
+    ∙ ap (groups w (suc n)) (sym (replicate-append-replicate w (n * w) 0))
+    ∙ ap₂ (λ (s t : List ℕ). number s ∷ groups w n t) (take-at (blank w) (blank (n * w)) w e) (drop-at (blank w) (blank (n * w)) w e)
+    ∙ ap₂ _∷_ (zeros-number (blank w) (blank-zeros w)) (blank-groups w n)
