@@ -7,7 +7,7 @@
 --   capped n         n, or 2 ^ 64 - 1 where n is greater: the count stops there
 --   Holds N first P slots count      count is how many masks pass P, capped; while they fit, slots hold them, in any order, and after them what first held there
 --   Adds N Q before count after r    the step from (before, count) to (after, r) adds the masks that pass Q
-use Prim.Native.Nat.{ℕ, _+_, _-_, _^_, _≤_, _<_, min}
+use Prim.Native.Nat.{ℕ, _-_, _^_, _≤_, _<_, min}
 use mathlib.Core.Path.{_≡_}
 use mathlib.Core.Bool.{Bool, _||_}
 use mathlib.Core.List.{List}

@@ -37,8 +37,8 @@ use Rattle.judging.specs.PlexLaws.{maximal-by-one, one-by-maximal}
 use Rattle.search.specs.Found.{found, Found}
 use Rattle.search.specs.FoundLaws.{found-holds, found-test, cut-none}
 use Rattle.search.specs.Choice.{Pickable}
-use Rattle.lists.specs.Placing.{number, union, only, Apart, Adds}
-use Rattle.lists.specs.PlacingLaws.{same-test, number-same, number-only, number-union, adds-none, adds-same, adds-both}
+use Rattle.lists.specs.Placing.{union, Apart, Adds}
+use Rattle.lists.specs.PlacingLaws.{same-test, adds-none, adds-same, adds-both}
 use Rattle.search.specs.Ready.{unless}
 
 pub record Common (g : List ℕ) (s m : ℕ) : Type 0 where

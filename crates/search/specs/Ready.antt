@@ -3,10 +3,10 @@
 --   Settled g t ask          what stays put: a valid graph that sets can hold, numbers within range, and a table of near rows
 --   Ready g t ask s c count  the same, candidates c that are compatible with s, and room to count what is to be added
 --   unless b x               the mask x alone, and nothing where b is true
-use Prim.Native.Nat.{ℕ, _+_, _^_, _≤_, _<_}
+use Prim.Native.Nat.{ℕ, _^_, _≤_, _<_}
 use native.Mathlib.Omega.{arith}
 use native.Mathlib.Decide.{ℕ-discrete}
-use mathlib.Core.Path.{_≡_, refl, sym, ap, _∙_, subst}
+use mathlib.Core.Path.{_≡_, refl, sym, ap, subst}
 use mathlib.Core.Bool.{Bool, true, false, not, _&&_}
 use mathlib.Core.List.{List}
 use lib.Dec.{T, eqb, eqb→eq, eqb-refl}
@@ -28,8 +28,8 @@ use Rattle.bounds.specs.BoundSetting.{Boundable}
 use Rattle.search.specs.Found.{found, Empty, Compatible, Short, Near}
 use Rattle.search.specs.FoundLaws.{found-holds, cut-none, short-empty, stuck-empty, extendable-empty, leaf-found, leaf-only, branches, branches-apart, branch-without}
 use Rattle.search.specs.Partition.{Between}
-use Rattle.lists.specs.Placing.{number, union, only, Adds}
-use Rattle.lists.specs.PlacingLaws.{same-test, number-same, number-only, number-union, adds-none, adds-same, adds-both}
+use Rattle.lists.specs.Placing.{union, only, Adds}
+use Rattle.lists.specs.PlacingLaws.{same-test, adds-none, adds-same, adds-both}
 use Rattle.search.specs.TrimLaws.{Joinable, Beside, trimmed-compatible}
 use Rattle.search.specs.SiftLaws.{Siftable}
 

@@ -5,21 +5,19 @@
 --   Accepted g ask       what is known of a request that passes the checks
 use Prim.Native.Nat.{ℕ, _+_, _*_, _-_, _^_, _≤_, _<_}
 use native.Mathlib.Omega.{arith}
-use native.Mathlib.Nat.{lt-of-lt-of-le}
 use native.Mathlib.Decide.{ℕ-discrete}
 use mathlib.Core.Path.{_≡_, sym, ap, _∙_, subst}
 use mathlib.Core.Bool.{Bool, cond}
 use mathlib.Core.List.{List, [], _∷_, _++_}
-use lib.Bits.{bitOr}
 use lib.Count.{ones-le}
-use lib.Pow.{pow-pos, pow-mono, ones-lt}
+use lib.Pow.{pow-pos, ones-lt}
 use lib.ListN.{length, take, drop, replicate}
 use borrow.Author.Tests.{le-leb, lt-leb, lt-ltb, le-ltb}
-use Rattle.sets.specs.Set.{minus, bit, In, Sub, size, with, full}
+use Rattle.sets.specs.Set.{bit, In, Sub, size, with, full}
 use Rattle.sets.specs.Graph.{row}
 use Rattle.sets.specs.Words.{perSet, width, masks}
 use Rattle.sets.specs.Words.Operations.{count-masks}
-use Rattle.sets.specs.BitLaws.{bit-le, bit-or, bit-minus, bit-high}
+use Rattle.sets.specs.BitLaws.{bit-or, bit-high}
 use Rattle.sets.specs.WordLaws.{bit-full}
 use Rattle.sets.specs.SubsetLaws.{sub-of-in, in-of-sub, in-below, sub-with, with-same, with-other, with-below}
 use Rattle.judging.specs.Request.{Request, request}
