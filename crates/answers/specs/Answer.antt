@@ -14,7 +14,7 @@ use lib.ListN.{length}
 use Rattle.judging.specs.Request.{Request}
 use Rattle.judging.specs.Refusal.{Reply, refused, answered, mostVertices}
 use Rattle.sheets.specs.Sheet.{Sheet, reading, over}
-use Rattle.sheets.specs.Output.{replyText, listLength, refusalLength}
+use Rattle.answers.specs.Output.{replyText, listLength, refusalLength}
 use Rattle.lists.specs.Listing.{listing}
 use Rattle.search.specs.Calls.{listReply, slotsAfter}
 

@@ -19,7 +19,7 @@ use Rattle.sheets.specs.Lines.{line, lines}
 use Rattle.sheets.specs.LineLaws.{length-line, length-lines}
 use Rattle.sheets.specs.Sheet.{Sheet, rowDigits, rowLength, reading, over, rowsAfter}
 use Rattle.sheets.specs.Calls.{Heading, heading, headingOf}
-use Rattle.sheets.specs.Output.{letterR, blank, figureZero, decimals, listText, refusalText, replyText, listLength, refusalLength}
+use Rattle.answers.specs.Output.{letterR, blank, figureZero, decimals, listText, refusalText, replyText, listLength, refusalLength}
 use Rattle.lists.specs.Listing.{listing}
 use Rattle.lists.specs.PartLaws.{lent-before}
 use Rattle.search.specs.Calls.{listReply, slotsAfter}

@@ -13,7 +13,7 @@ use Rattle.judging.specs.Calls.{requestCheck}
 use Rattle.sheets.specs.Digits.{between, digitValue, isDigit, digitByte, digits, numberFrom, number}
 use Rattle.sheets.specs.Lines.{line, lines, isLine, field, rightLines, numbers}
 use Rattle.sheets.specs.Sheet.{sheetOf, headingCause, rowsCause, roomCause, headingCauses, bodyCauses, reading}
-use Rattle.sheets.specs.Output.{decimals, listText, refusalText}
+use Rattle.answers.specs.Output.{decimals, listText, refusalText}
 use Rattle.sheets.specs.Examples.{ring}
 use Rattle.lists.specs.Listing.{listed, listing}
 use Rattle.search.specs.Calls.{slotsCause, listReply}

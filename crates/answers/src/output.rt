@@ -7,7 +7,7 @@ ghost use Rattle.sets.specs.Words.{masks};
 ghost use Rattle.judging.specs.Calls.{numberOf, valueOf};
 ghost use Rattle.sheets.specs.Lines.{lines};
 ghost use Rattle.sheets.specs.Sheet.{rowDigits, rowLength};
-ghost use Rattle.sheets.specs.Output.{figureZero, listText, refusalText, listLength, refusalLength};
+ghost use Rattle.answers.specs.Output.{figureZero, listText, refusalText, listLength, refusalLength};
 ghost use Rattle.answers.specs.Answer.{Writes};
 use judging::Refusal;
 use sheets::lines;

@@ -10,7 +10,6 @@ pub mod CoreLaws
 pub mod PairLaws
 pub mod ReachLaws
 pub mod CallLaws
-pub mod OrderLaws
 pub mod BoundLaws
 pub mod BoundSound
 pub mod TightestLaws

@@ -21,7 +21,8 @@ use Rattle.sets.specs.SizeLaws.{some-member, minus-below}
 use Rattle.judging.specs.Graph.{adjacent, missing}
 use Rattle.bounds.specs.Bound.{lesser, least, tightest, kept}
 use Rattle.bounds.specs.BoundSetting.{LeastMember}
-use Rattle.bounds.specs.OrderLaws.{keep-keep, members-keep, members-none, members-lowest}
+use Rattle.sets.specs.KeepLaws.{keep-keep}
+use Rattle.sets.specs.MemberLaws.{members-keep, members-none, members-lowest}
 use Rattle.bounds.specs.BoundLaws.{least-mem, after, after-length, tightest-apart, kept-costly, kept-free, kept-charged, kept-unsupported}
 
 -- ---- the least support, by one walk

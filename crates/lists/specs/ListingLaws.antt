@@ -18,7 +18,7 @@ use Rattle.lists.specs.Order.{Shuffled, Sorts}
 use Rattle.lists.specs.OrderLaws.{rising-ordered, ordered-unique, rising-unique}
 use Rattle.lists.specs.Placing.{passing, number, mostCount, Adds}
 use Rattle.lists.specs.Listing.{listed, listing, Listed}
-use Rattle.lists.specs.KeepLaws.{keep-none, Rising, keep-rising}
+use Rattle.sets.specs.KeepLaws.{keep-none, Rising, keep-rising}
 use Rattle.lists.specs.PlacingLaws.{number-lt, adds-all}
 
 module _ (g : List ℕ) (ask : Request) where

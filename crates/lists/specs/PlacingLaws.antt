@@ -12,15 +12,8 @@ use Rattle.sets.specs.RangeLaws.{length-from, mem-range, range-mem, keep-mem, m
 use Rattle.sets.specs.SumLaws.{length-total}
 use Rattle.lists.specs.Order.{Shuffled}
 use Rattle.lists.specs.Placing.{passing, number, union, only, Apart, capped, Holds, Adds}
-use Rattle.lists.specs.KeepLaws.{keep-ext, keep-none, keep-length, keep-rising, total-either}
+use Rattle.sets.specs.KeepLaws.{keep-ext, keep-none, keep-length, keep-rising, total-either}
 use Rattle.lists.specs.OrderLaws.{rising-unique}
-
--- two tests that imply each other are equal
-pub same-test : (a b : Bool) → (T a → T b) → (T b → T a) → a ≡ b
-same-test true true f h = refl
-same-test true false f h = absurd (f tt)
-same-test false true f h = absurd (h tt)
-same-test false false f h = refl
 
 or-false : (a b : Bool) → (T b → ⊥) → a ≡ a || b
 or-false true b f = refl

@@ -24,7 +24,7 @@ use Rattle.sets.specs.Set.{bit, In, Sub, size, with, without, minus, full}
 use Rattle.sets.specs.Graph.{row}
 use Rattle.sets.specs.Words.{width}
 use Rattle.sets.specs.BitLaws.{ext, bit-le, bit-and, bit-or, bit-minus, bit-high, bit-pow-other}
-use Rattle.sets.specs.RangeLaws.{and-left, and-right, both, or-cases, or-left, or-right}
+use Rattle.sets.specs.RangeLaws.{and-left, and-right, both, or-cases, or-left, or-right, same-test}
 use Rattle.sets.specs.SubsetLaws.{sub-refl, sub-trans, sub-number, in-of-sub, in-below, with-sub, with-same, with-other, with-below, sub-with, without-same, without-other, minus-sub, positive-of}
 use Rattle.sets.specs.SizeLaws.{positive-size, size-one, size-mono, size-or, size-with, some-member, two-members, and-below}
 use Rattle.sets.specs.WordLaws.{bit-full}
@@ -38,7 +38,7 @@ use Rattle.search.specs.Found.{found, Found}
 use Rattle.search.specs.FoundLaws.{found-holds, found-test, cut-none}
 use Rattle.search.specs.Choice.{Pickable}
 use Rattle.lists.specs.Placing.{union, Apart, Adds}
-use Rattle.lists.specs.PlacingLaws.{same-test, adds-none, adds-same, adds-both}
+use Rattle.lists.specs.PlacingLaws.{adds-none, adds-same, adds-both}
 use Rattle.search.specs.Ready.{unless}
 
 pub record Common (g : List ℕ) (s m : ℕ) : Type 0 where

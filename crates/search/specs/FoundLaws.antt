@@ -13,7 +13,7 @@ use lib.Pow.{pow-pos}
 use lib.ListN.{length}
 use Rattle.sets.specs.Set.{bit, In, Sub, size, subset, with, without, minus}
 use Rattle.sets.specs.Graph.{row}
-use Rattle.sets.specs.RangeLaws.{and-left, and-right, both, or-cases, or-left, or-right}
+use Rattle.sets.specs.RangeLaws.{and-left, and-right, both, or-cases, or-left, or-right, same-test}
 use Rattle.sets.specs.BitLaws.{bit-le, bit-or, bit-minus, bit-high}
 use Rattle.sets.specs.SubsetLaws.{subset-sub, sub-subset, sub-trans, in-below, with-sub, with-same, with-other, sub-with, without-same, without-other, minus-sub}
 use Rattle.sets.specs.SizeLaws.{size-mono}
@@ -27,7 +27,6 @@ use Rattle.bounds.specs.BoundSound.{second-sound}
 use Rattle.lists.specs.Listing.{listed}
 use Rattle.lists.specs.ListingLaws.{listed-holds, listed-test}
 use Rattle.lists.specs.Placing.{Apart, union}
-use Rattle.lists.specs.PlacingLaws.{same-test}
 use Rattle.search.specs.Found.{found, Found, Empty, Short}
 use Rattle.search.specs.TrimLaws.{Kept}
 

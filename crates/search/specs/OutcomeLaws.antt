@@ -16,7 +16,7 @@ use Rattle.judging.specs.Refusal.{Reply, refused, answered, Cause, firstOf, ver
 use Rattle.judging.specs.Calls.{passed, requestCheck}
 use Rattle.judging.specs.RefusalLaws.{first-append, answered-passed, answered-value, passed-front, passed-back, passed-head}
 use Rattle.lists.specs.Listing.{listing, Listed}
-use Rattle.lists.specs.KeepLaws.{Rising}
+use Rattle.sets.specs.KeepLaws.{Rising}
 use Rattle.lists.specs.ListingLaws.{listing-rising, listing-sound, listing-complete, floor-above}
 use Rattle.search.specs.Calls.{slotsCause, listReply, slotsAfter}
 use Rattle.search.specs.TopLaws.{reply-fits, reply-short, slots-fit, slots-short}

@@ -29,7 +29,8 @@ use Rattle.search.specs.Found.{found, Empty, Compatible, Short, Near}
 use Rattle.search.specs.FoundLaws.{found-holds, cut-none, short-empty, stuck-empty, extendable-empty, leaf-found, leaf-only, branches, branches-apart, branch-without}
 use Rattle.search.specs.Partition.{Between}
 use Rattle.lists.specs.Placing.{union, only, Adds}
-use Rattle.lists.specs.PlacingLaws.{same-test, adds-none, adds-same, adds-both}
+use Rattle.lists.specs.PlacingLaws.{adds-none, adds-same, adds-both}
+use Rattle.sets.specs.RangeLaws.{same-test}
 use Rattle.search.specs.TrimLaws.{Joinable, Beside, trimmed-compatible}
 use Rattle.search.specs.SiftLaws.{Siftable}
 

@@ -34,7 +34,8 @@ use Rattle.lists.specs.Listing.{listed, listing, Listed}
 use Rattle.lists.specs.ListingLaws.{listed-test, listed-holds, listing-counts, listing-placed, listing-sorted}
 use Rattle.lists.specs.Order.{Sorts}
 use Rattle.lists.specs.Placing.{mostCount, Adds}
-use Rattle.lists.specs.PlacingLaws.{same-test, adds-same, adds-all}
+use Rattle.lists.specs.PlacingLaws.{adds-same, adds-all}
+use Rattle.sets.specs.RangeLaws.{same-test}
 use Rattle.search.specs.Found.{found, Compatible, Near}
 use Rattle.search.specs.FoundLaws.{found-holds, found-test}
 use Rattle.search.specs.NearRows.{Pairing}

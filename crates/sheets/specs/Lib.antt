@@ -2,7 +2,6 @@
 pub mod Digits
 pub mod Lines
 pub mod Sheet
-pub mod Output
 pub mod Calls
 pub mod Setting
 pub mod DigitLaws

@@ -5,7 +5,7 @@ use mathlib.Core.Path.{ap, _∙_}
 use denote.Ref.{now}
 use lib.ListN.{length-set}
 use Rattle.judging.specs.Calls.{numberOf, valueOf}
-use Rattle.sheets.specs.Output.{figureZero, refusalText, refusalLength}
+use Rattle.answers.specs.Output.{figureZero, refusalText, refusalLength}
 use Rattle.answers.specs.AnswerLaws.{length-refusal, refusal-written, writes-long}
 use borrow.Author.Needs.{needs}
 use Rattle.answers.proofs.output.write_refusal.Statement.{statement}

@@ -1,4 +1,4 @@
--- Laws of the elements that pass a test: where two tests agree, sums over those that pass, and the order of those of a range.
+-- Laws of the elements of a list that pass a test: where two tests agree, a test after another, sums over those that pass, and the order of those of a range.
 --
 --   Rising b xs   the first element is at least b, and each later one is above those before it
 use Prim.Native.Nat.{ℕ, zero, suc, _+_, _≤_}
@@ -6,31 +6,48 @@ use native.Mathlib.Nat.{le-refl, le-trans}
 use native.Mathlib.Omega.{arith}
 use mathlib.Core.Path.{_≡_, refl, sym, ap, ap₂, _∙_}
 use mathlib.Core.Logic.{_⊎_, inl, inr}
-use mathlib.Core.Bool.{Bool, true, false, _||_, cond}
+use mathlib.Core.Bool.{Bool, true, false, _&&_, _||_, cond}
 use mathlib.Core.List.{List, [], _∷_, List·Memᴰ·head, List·Memᴰ·tail, List·Memᴰ·cases-cons, List·Memᴰ·not-nil}
 use lib.Dec.{T}
 use lib.ListN.{length}
 use Rattle.sets.specs.Ranges.{from, keep, total}
-use Rattle.sets.specs.RangeLaws.{Mem, true-holds}
+use Rattle.sets.specs.RangeLaws.{Mem, is-true, is-false}
 use Rattle.sets.specs.SumLaws.{where-so, total-ext, total-add, total-keep}
 
 -- ---- the elements that pass
 
 pub keep-ext : (p q : ℕ → Bool) (xs : List ℕ) → ((v : ℕ) → Mem v xs → p v ≡ q v) → keep p xs ≡ keep q xs
 unfolding keep
-keep-ext p q [] h = refl
-keep-ext p q (x ∷ xs) h =
-    ap (λ (b : Bool). cond b (x ∷ keep p xs) (keep p xs)) (h x (List·Memᴰ·head refl))
-    ∙ ap (λ (l : List ℕ). cond (q x) (x ∷ l) l) (keep-ext p q xs (λ v m. h v (List·Memᴰ·tail m)))
+keep-ext p q [] e = refl
+keep-ext p q (x ∷ xs) e =
+    ap₂ (λ (b : Bool) (r : List ℕ). cond b (x ∷ r) r) (e x (List·Memᴰ·head refl)) (keep-ext p q xs (λ v m. e v (List·Memᴰ·tail m)))
 
+-- an element that passes, and one that does not
+pub keep-in : (p : ℕ → Bool) (x : ℕ) (xs : List ℕ) → T (p x) → keep p (x ∷ xs) ≡ x ∷ keep p xs
+unfolding keep
+keep-in p x xs t = ap (λ (b : Bool). cond b (x ∷ keep p xs) (keep p xs)) (sym (is-true (p x) t))
+
+pub keep-out : (p : ℕ → Bool) (x : ℕ) (xs : List ℕ) → (T (p x) → ⊥) → keep p (x ∷ xs) ≡ keep p xs
+unfolding keep
+keep-out p x xs f = ap (λ (b : Bool). cond b (x ∷ keep p xs) (keep p xs)) (sym (is-false (p x) f))
+
+pub keep-keep : (p q : ℕ → Bool) (xs : List ℕ) → keep q (keep p xs) ≡ keep (λ u. p u && q u) xs
+unfolding keep
+keep-keep p q [] = refl
+keep-keep p q (x ∷ xs) = go (p x) (keep-keep p q xs)
+  where
+    go : (b : Bool) → keep q (keep p xs) ≡ keep (λ u. p u && q u) xs
+        → keep q (cond b (x ∷ keep p xs) (keep p xs)) ≡ cond (b && q x) (x ∷ keep (λ u. p u && q u) xs) (keep (λ u. p u && q u) xs)
+    go true e = ap (λ (r : List ℕ). cond (q x) (x ∷ r) r) e
+    go false e = e
+
+-- nothing passes
 pub keep-none : (p : ℕ → Bool) (xs : List ℕ) → ((v : ℕ) → Mem v xs → T (p v) → ⊥) → keep p xs ≡ []
 unfolding keep
-keep-none p [] h = refl
-keep-none p (x ∷ xs) h = go (p x) refl (keep-none p xs (λ v m. h v (List·Memᴰ·tail m)))
-  where
-    go : (b : Bool) → p x ≡ b → keep p xs ≡ [] → cond b (x ∷ keep p xs) (keep p xs) ≡ []
-    go true e r = absurd (h x (List·Memᴰ·head refl) (true-holds (p x) e))
-    go false e r = r
+keep-none p [] e = refl
+keep-none p (x ∷ xs) e =
+    ap (λ (b : Bool). cond b (x ∷ keep p xs) (keep p xs)) (sym (is-false (p x) (e x (List·Memᴰ·head refl))))
+    ∙ keep-none p xs (λ v m. e v (List·Memᴰ·tail m))
 
 pub keep-length : (p : ℕ → Bool) (xs : List ℕ) → length (keep p xs) ≤ length xs
 unfolding keep
