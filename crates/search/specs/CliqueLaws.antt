@@ -1,4 +1,5 @@
--- Laws of cliques: their common neighbours, which a walk through the members finds, and the pivot, whose strangers every clique to be found has one of.
+-- Laws of cliques: their common neighbours, which a walk through the members finds, and the pivot. Every clique to be found has the pivot or a vertex that the pivot is
+-- not adjacent to, so it is touched by the candidates that cover the others.
 --
 --   Sharing g s l m      the members of s outside l are adjacent to all of m, and m has all common neighbours of s
 --   Pivoting g c m l b   b covers c, and the vertices l of m are still to be looked at
@@ -8,12 +9,12 @@ use native.Mathlib.Nat.{le-refl}
 use native.Mathlib.Decide.{ℕ-discrete}
 use mathlib.Core.Path.{_≡_, sym, ap, _∙_, subst}
 use mathlib.Core.Logic.{_≢_}
-use mathlib.Core.Bool.{Bool, true, false}
+use mathlib.Core.Bool.{Bool, true, false, not}
 use mathlib.Core.List.{List}
-use lib.Bits.{bitAnd}
+use lib.Bits.{bitAnd, bitOr}
 use lib.Count.{ones-le}
 use lib.Pow.{pow-pos, ones-lt}
-use lib.Dec.{eqb}
+use lib.Dec.{T, eqb, eqb→eq, eqb-refl, T-not, not-T}
 use lib.ListN.{length}
 use borrow.Author.Tests.{eqb-true, eqb-false}
 use Rattle.sets.specs.Set.{bit, In, Sub, size, with, without, minus, full}
@@ -21,6 +22,7 @@ use Rattle.sets.specs.Graph.{row}
 use Rattle.sets.specs.Words.{Lowest}
 use Rattle.sets.specs.BitLaws.{ext, bit-le, bit-and, bit-or, bit-minus, bit-pow-same}
 use Rattle.sets.specs.PointLaws.{bit-none, bit-with, in-single, by-bit}
+use Rattle.sets.specs.RangeLaws.{and-left, and-right, both, same-test}
 use Rattle.sets.specs.SubsetLaws.{sub-refl, sub-trans, in-of-sub, in-below, with-same, sub-with, minus-sub, positive-of}
 use Rattle.sets.specs.SizeLaws.{positive-size, size-mono, some-member, two-members, and-below}
 use Rattle.sets.specs.WordLaws.{bit-full}
@@ -30,9 +32,10 @@ use Rattle.judging.specs.Graph.{missing, Valid}
 use Rattle.judging.specs.Plex.{Plex}
 use Rattle.judging.specs.GraphLaws.{missing-with}
 use Rattle.judging.specs.PlexLaws.{one-by-maximal}
-use Rattle.search.specs.Found.{Found}
+use Rattle.search.specs.Found.{found, Found}
+use Rattle.search.specs.FoundLaws.{found-holds, found-test}
 use Rattle.search.specs.Choice.{Pickable}
-use Rattle.search.specs.Cliques.{Common, Covering}
+use Rattle.search.specs.Cliques.{Common, Covering, touched}
 
 -- ---- pointwise
 
@@ -41,6 +44,9 @@ none-out e u = omega (arith, ap (λ (y : ℕ). bit y u) e, bit-none u)
 
 pub none-by : (s : ℕ) → ((u : ℕ) → bit s u ≡ 0) → s ≡ 0
 none-by s f = ext s 0 (λ u. omega (arith, f u, bit-none u))
+
+pub parts-whole : (c d : ℕ) → Sub d c → bitOr (minus c d) d ≡ c
+parts-whole c d part = ext (bitOr (minus c d) d) c (λ u. omega (arith, bit-or (minus c d) d u, bit-minus c d u, part u, bit-le c u))
 
 -- ---- the test `is_empty`, whose answer is b
 
@@ -96,7 +102,8 @@ module _ {g : List ℕ} {s m : ℕ} (ok : Valid g) (near : Common g s m) where
   pub common-apart : (u : ℕ) → bit s u + bit m u ≤ 1
   common-apart u =
       by-bit s u
-      (λ i. by-bit m u (λ j. absurd (omega (arith, near .beside u i u, ok .loopless u (in-below (length g) m u (near .below) j)))) (λ o. omega (arith, bit-le s u)))
+      (λ i. by-bit m u (λ j. absurd (omega (arith, near .beside u i u, ok .loopless u (in-below (length g) m u (near .below) j))))
+      (λ o. omega (arith, bit-le s u)))
       (λ o. omega (arith, bit-le m u))
 
   -- a clique grows by one of them
@@ -121,7 +128,9 @@ common-with {g} {s} {m} near v =
     }
   where
     last : (u : ℕ) → In u (with s v) → bit s u ≡ 0 → Sub (bitAnd m (row g v)) (row g u)
-    last u i o = subst (λ (y : ℕ). Sub (bitAnd m (row g v)) (row g y)) (in-single v u (omega (arith, bit-with s v u))) (λ x. omega (arith, bit-and m (row g v) x))
+    last u i o =
+        subst (λ (y : ℕ). Sub (bitAnd m (row g v)) (row g y)) (in-single v u (omega (arith, bit-with s v u)))
+        (λ x. omega (arith, bit-and m (row g v) x))
 
 -- by a walk through the members
 pub record Sharing (g : List ℕ) (s left m : ℕ) : Type 0 where
@@ -132,7 +141,8 @@ pub record Sharing (g : List ℕ) (s left m : ℕ) : Type 0 where
 pub sharing-none : {g : List ℕ} {s m : ℕ} → m ≡ full (length g) → Sharing g s s m
 sharing-none {g} {s} e = rw e (record { below = ones-lt (length g); beside = walk-none _ s; every = λ x l f. bit-full (length g) x l })
 
-pub sharing-next : {g : List ℕ} {s left m v r w n : ℕ} → Sharing g s left m → Lowest left v → r ≡ without left v → w ≡ row g v → n ≡ bitAnd m w → Sharing g s r n
+pub sharing-next : {g : List ℕ} {s left m v r w n : ℕ} → Sharing g s left m → Lowest left v → r ≡ without left v → w ≡ row g v → n ≡ bitAnd m w
+    → Sharing g s r n
 sharing-next {g} {s} {left} {m} {v} {r} {w} {n} h low er ew en =
     rw (en, ew) (record {
       below = and-below (length g) m (row g v) (h .below);
@@ -207,3 +217,30 @@ module _ {g : List ℕ} {s c m r : ℕ} (ask : Request) (ok : Valid g) (lk : 1 �
 
           out : bit x p ≡ 0
           out = by-bit x p (λ i. absurd (omega (arith, adjacent p i, ok .loopless p lp))) (λ o. o)
+
+-- ---- what is touched
+
+module _ (g : List ℕ) (ask : Request) (s b t x : ℕ) where
+  pub touched-holds : x < 2 ^ length g → T (touched g ask s b t x) → Found g ask s (bitOr b t) x × (0 < bitAnd x t)
+  unfolding touched
+  touched-holds l h = (
+    found-holds g ask s (bitOr b t) x l (and-left (found g ask s (bitOr b t) x) (not (eqb (bitAnd x t) 0)) h),
+    positive-of (bitAnd x t) (λ e. T-not (eqb (bitAnd x t) 0) (and-right (found g ask s (bitOr b t) x) (not (eqb (bitAnd x t) 0)) h) (rw e (eqb-refl 0))),
+  )
+
+  pub touched-test : Found g ask s (bitOr b t) x → 0 < bitAnd x t → T (touched g ask s b t x)
+  unfolding touched
+  touched-test f l =
+      both (found g ask s (bitOr b t) x) (not (eqb (bitAnd x t) 0)) (found-test g ask s (bitOr b t) x f)
+      (not-T (eqb (bitAnd x t) 0) (λ z. omega (arith, eqb→eq (bitAnd x t) 0 z)))
+
+-- where what is to be found in c meets d, a part of c, it is what is touched by d
+pub touched-all : {g : List ℕ} {ask : Request} {s c : ℕ} (d : ℕ) → Sub d c → ((x : ℕ) → Found g ask s c x → 0 < bitAnd x d)
+    → (x : ℕ) → x < 2 ^ length g → touched g ask s (minus c d) d x ≡ found g ask s c x
+touched-all {g} {ask} {s} {c} d part hits x l =
+    same-test (touched g ask s (minus c d) d x) (found g ask s c x)
+    (λ z. found-test g ask s c x (rw whole at (touched-holds g ask s (minus c d) d x l z .0)))
+    (λ z. let f = found-holds g ask s c x l z in touched-test g ask s (minus c d) d x (rw whole f) (hits x f))
+  where
+    whole : bitOr (minus c d) d ≡ c
+    whole = parts-whole c d part

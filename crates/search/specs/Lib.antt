@@ -15,6 +15,7 @@ pub mod Cliques
 pub mod CliqueLaws
 pub mod SweepLaws
 pub mod TakeLaws
+pub mod EndLaws
 pub mod TopLaws
 pub mod OutcomeLaws
 pub mod Edges

@@ -9,57 +9,36 @@ use native.Mathlib.Omega.{arith}
 use native.Mathlib.Decide.{ℕ-discrete}
 use mathlib.Core.Path.{_≡_, refl, ap, _∙_}
 use mathlib.Core.Logic.{_⊎_, inl, inr}
-use mathlib.Core.Bool.{Bool, not}
+use mathlib.Core.Bool.{Bool}
 use mathlib.Core.List.{List}
 use lib.Bits.{bitAnd, bitOr}
-use lib.Dec.{T, eqb, eqb→eq, eqb-refl, T-not, not-T}
+use lib.Dec.{T}
 use lib.ListN.{length}
-use Rattle.sets.specs.Set.{bit, In, Sub, size, with, without, minus}
+use Rattle.sets.specs.Set.{bit, In, with, without}
 use Rattle.sets.specs.Graph.{row}
 use Rattle.sets.specs.Words.{Lowest}
 use Rattle.sets.specs.BitLaws.{ext, bit-le, bit-and, bit-or, bit-minus}
 use Rattle.sets.specs.PointLaws.{bit-with, single-in, single-out, by-bit}
-use Rattle.sets.specs.RangeLaws.{and-left, and-right, both, or-cases, or-left, or-right, same-test}
+use Rattle.sets.specs.RangeLaws.{or-cases, or-left, or-right, same-test}
 use Rattle.sets.specs.SubsetLaws.{sub-trans, sub-number, with-sub, with-same, with-below, sub-with, positive, positive-of}
 use Rattle.sets.specs.SizeLaws.{size-with}
 use Rattle.sets.specs.WalkLaws.{without-less}
 use Rattle.judging.specs.Request.{Request}
-use Rattle.judging.specs.Plex.{Plex}
 use Rattle.lists.specs.Placing.{union, Apart, Adds}
 use Rattle.lists.specs.PlacingLaws.{adds-none, adds-same, adds-both}
 use Rattle.search.specs.Found.{found, Found}
 use Rattle.search.specs.FoundLaws.{found-holds, found-test}
 use Rattle.search.specs.Cliques.{touched, AddsFound, Taking, Sweeping}
 use Rattle.search.specs.CliqueLaws.{none-out, none-by, clique-near, common-apart, common-vertex, common-out, common-clique, common-with}
+use Rattle.search.specs.CliqueLaws.{touched-holds, touched-test}
 
--- ---- the test and the statement
+-- ---- one step of a sweep: what is found with v and the candidates of b that v is adjacent to, and what is touched by the rest of t
 
-module _ (g : List ℕ) (ask : Request) (s b t x : ℕ) where
-  pub touched-holds : x < 2 ^ length g → T (touched g ask s b t x) → Found g ask s (bitOr b t) x × (0 < bitAnd x t)
-  unfolding touched
-  touched-holds l h = (
-    found-holds g ask s (bitOr b t) x l (and-left (found g ask s (bitOr b t) x) (not (eqb (bitAnd x t) 0)) h),
-    positive-of (bitAnd x t) (λ e. T-not (eqb (bitAnd x t) 0) (and-right (found g ask s (bitOr b t) x) (not (eqb (bitAnd x t) 0)) h) (rw e (eqb-refl 0))),
-  )
+abbrev first : List ℕ → Request → ℕ → ℕ → ℕ → ℕ → Bool
+first g ask s b v = found g ask (with s v) (bitAnd b (row g v))
 
-  pub touched-test : Found g ask s (bitOr b t) x → 0 < bitAnd x t → T (touched g ask s b t x)
-  unfolding touched
-  touched-test f l =
-      both (found g ask s (bitOr b t) x) (not (eqb (bitAnd x t) 0)) (found-test g ask s (bitOr b t) x f)
-      (not-T (eqb (bitAnd x t) 0) (λ z. omega (arith, eqb→eq (bitAnd x t) 0 z)))
-
--- where what is to be found in c meets d, a part of c, it is what is touched by d
-module _ (g : List ℕ) (ask : Request) (s c d : ℕ) (part : Sub d c) (hits : (x : ℕ) → Found g ask s c x → 0 < bitAnd x d) where
-  pub parts-whole : bitOr (minus c d) d ≡ c
-  parts-whole = ext (bitOr (minus c d) d) c (λ u. omega (arith, bit-or (minus c d) d u, bit-minus c d u, part u, bit-le c u))
-
-  pub touched-all : (x : ℕ) → x < 2 ^ length g → touched g ask s (minus c d) d x ≡ found g ask s c x
-  touched-all x l =
-      same-test (touched g ask s (minus c d) d x) (found g ask s c x)
-      (λ z. found-test g ask s c x (rw parts-whole at (touched-holds g ask s (minus c d) d x l z .0)))
-      (λ z. let f = found-holds g ask s c x l z in touched-test g ask s (minus c d) d x (rw parts-whole f) (hits x f))
-
--- ---- one step of a sweep
+abbrev rest : List ℕ → Request → ℕ → ℕ → ℕ → ℕ → ℕ → Bool
+rest g ask s b t v = touched g ask s (with b v) (without t v)
 
 module _ {g : List ℕ} {ask : Request} {have s b m t : ℕ} (h : Sweeping g ask have s b m t) where
   -- nothing is left to be taken
@@ -181,27 +160,17 @@ module _ {g : List ℕ} {ask : Request} {have s b m t : ℕ} (h : Sweeping g ask
                 omega (arith, none-out z u, bit-and x (without t v) u, bit-and x t u, bit-minus t (2 ^ v) u, single-out x v u o)),
           )))
 
-    sweep-apart : Apart (2 ^ length g) (found g ask (with s v) (bitAnd b (row g v))) (touched g ask s (with b v) (without t v))
+    sweep-apart : Apart (2 ^ length g) (first g ask s b v) (rest g ask s b t v)
     sweep-apart x l y z =
-        omega (
-          arith,
-          alone x (found-holds g ask (with s v) (bitAnd b (row g v)) x l y),
-          touched-holds g ask s (with b v) (without t v) x l z .1,
-        )
+        omega (arith, alone x (found-holds g ask (with s v) (bitAnd b (row g v)) x l y), touched-holds g ask s (with b v) (without t v) x l z .1)
 
-    sweep-split : (x : ℕ) → x < 2 ^ length g
-        → union (found g ask (with s v) (bitAnd b (row g v))) (touched g ask s (with b v) (without t v)) x ≡ touched g ask s b t x
+    sweep-split : (x : ℕ) → x < 2 ^ length g → union (first g ask s b v) (rest g ask s b t v) x ≡ touched g ask s b t x
     sweep-split x l =
-        same-test (union first rest x) (touched g ask s b t x) (λ y. back (or-cases (first x) (rest x) y))
+        same-test (union (first g ask s b v) (rest g ask s b t v) x) (touched g ask s b t x)
+        (λ y. back (or-cases (first g ask s b v x) (rest g ask s b t v x) y))
         (λ y. let w = touched-holds g ask s b t x l y in into (w .0) (w .1) (ℕ-discrete (bitAnd x (without t v)) 0))
       where
-        first : ℕ → Bool
-        first = found g ask (with s v) (bitAnd b (row g v))
-
-        rest : ℕ → Bool
-        rest = touched g ask s (with b v) (without t v)
-
-        back : T (first x) ⊎ T (rest x) → T (touched g ask s b t x)
+        back : T (first g ask s b v x) ⊎ T (rest g ask s b t v x) → T (touched g ask s b t x)
         back (inl y) =
             let f = found-holds g ask (with s v) (bitAnd b (row g v)) x l y in
             touched-test g ask s b t x (given x f) (positive (bitAnd x t) v (omega (arith, bit-and x t v, f .lower v, with-same s v, bit-le x v)))
@@ -209,11 +178,19 @@ module _ {g : List ℕ} {ask : Request} {have s b m t : ℕ} (h : Sweeping g ask
             let w = touched-holds g ask s (with b v) (without t v) x l y in
             touched-test g ask s b t x (rw same at (w .0)) (omega (arith, fewer x))
 
-        into : Found g ask s (bitOr b t) x → 0 < bitAnd x t → Dec (bitAnd x (without t v) ≡ 0) → T (union first rest x)
-        into f k (yes z) = or-left (first x) (rest x) (found-test g ask (with s v) (bitAnd b (row g v)) x (taken x f (only x z k) z))
+        into : Found g ask s (bitOr b t) x → 0 < bitAnd x t → Dec (bitAnd x (without t v) ≡ 0) → T (union (first g ask s b v) (rest g ask s b t v) x)
+        into f k (yes z) =
+            or-left (first g ask s b v x) (rest g ask s b t v x)
+            (found-test g ask (with s v) (bitAnd b (row g v)) x (taken x f (only x z k) z))
         into f k (no n) =
-            or-right (first x) (rest x)
+            or-right (first g ask s b v x) (rest g ask s b t v x)
             (touched-test g ask s (with b v) (without t v) x (rw same f) (positive-of (bitAnd x (without t v)) n))
+
+    sweep-adds : (before between after : List ℕ) (count n o : ℕ) → Adds (2 ^ length g) (first g ask s b v) before count between n
+        → Adds (2 ^ length g) (rest g ask s b t v) between n after o → Adds (2 ^ length g) (touched g ask s b t) before count after o
+    sweep-adds before between after count n o x y =
+        adds-same (2 ^ length g) (union (first g ask s b v) (rest g ask s b t v)) (touched g ask s b t) before after count o sweep-split
+        (adds-both (2 ^ length g) (first g ask s b v) (rest g ask s b t v) before between after count n o sweep-apart x y)
 
 -- ---- the step as the code takes it
 
@@ -265,16 +242,6 @@ module _ {g : List ℕ} {ask : Request} {have s b m t : ℕ} {before : List ℕ}
         rw (d .waiting, d .left) (record {
           sweeping = left-sweeping (k .sweeping) v (d .member);
           same = same (k .sweeping) v (d .member) ∙ k .same;
-          onward = λ end p y. k .onward end p (adds end p y);
+          onward = λ end p y.
+              k .onward end p (sweep-adds (k .sweeping) v (d .member) after last end n o p (rw (d .joined .clique, d .inside) at x) y);
         })
-      where
-        rest : ℕ → Bool
-        rest = touched g ask s (with b2 v) (without t2 v)
-
-        first : ℕ → Bool
-        first = found g ask (with s v) (bitAnd b2 (row g v))
-
-        adds : (end : List ℕ) (p : ℕ) → Adds (2 ^ length g) rest last o end p → Adds (2 ^ length g) (touched g ask s b2 t2) after n end p
-        adds end p y =
-            adds-same (2 ^ length g) (union first rest) (touched g ask s b2 t2) after end n p (sweep-split (k .sweeping) v (d .member))
-            (adds-both (2 ^ length g) first rest after last end n o p (sweep-apart (k .sweeping) v (d .member)) (rw (d .joined .clique, d .inside) at x) y)

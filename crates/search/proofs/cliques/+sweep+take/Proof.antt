@@ -1,5 +1,5 @@
--- A sweep adds what each vertex to take adds in turn. A clique adds what its end adds where at most two candidates are left, and else what a sweep over the candidates of
--- a pivot adds. The measure is the candidates, which fall when a vertex is taken.
+-- A sweep adds what each vertex to take adds in turn. A clique adds what its end adds where at most two candidates are left, and else what a sweep over
+-- the candidates of a pivot adds. The measure is the candidates, which fall when a vertex is taken.
 use Prim.Native.Nat.{ℕ, _+_, _*_, _^_, _<_}
 use borrow.Fn.Kinds.{In}
 use borrow.Fn.PlainCycle.{Measures, is, falls, and}
@@ -16,7 +16,8 @@ use Rattle.sets.specs.Words.{mask, masks}
 use Rattle.sets.specs.WalkLaws.{walk-falls, walk-goes-on, walk-over}
 use Rattle.search.specs.CliqueLaws.{empty-holds, empty-fails}
 use Rattle.search.specs.SweepLaws.{sweep-vertex, Step, step, step-taking, Swept, swept-none, swept-falls, swept-more, swept-all}
-use Rattle.search.specs.TakeLaws.{take-fits, few-adds, take-pickable, take-same, take-adds, cover-candidates, cover-sweeping, cover-adds, one-left, two-left}
+use Rattle.search.specs.TakeLaws.{take-fits, few-adds, take-pickable, take-same, take-adds, cover-candidates, cover-sweeping, cover-adds}
+use Rattle.search.specs.EndLaws.{one-left, two-left}
 use Rattle.search.proofs.cliques.sweep.Reads as sweep
 use Rattle.search.proofs.cliques.sweep.Kinds as sweep-kinds
 use Rattle.search.proofs.cliques.+sweep+take.Lts-sweep as sweep-lts
@@ -120,25 +121,30 @@ module _ (t : ℕ) where
   abbrev Moved : Type 0
   Moved = sweep-lts.After-with2 (sweep-calls t) (sweep-at t) sweep.Post Inv-loop μ-loop
 
-  abbrev sweep-start : Turn → sweep-lts.Start (sweep-calls t) (sweep-at t) sweep.Post Inv-loop μ-loop
-  sweep-start c = c .before .before .before
-
   abbrev turn : Moved → Turn
   turn c = c .before .before .before .before .before .before .before .before .before
 
-  abbrev found : (c : Moved) → sweep-lts.After-get (sweep-calls t) (sweep-at t) sweep.Post Inv-loop μ-loop
-  found c = c .before .before .before .before .before
+  abbrev entry : Turn → sweep-lts.Start (sweep-calls t) (sweep-at t) sweep.Post Inv-loop μ-loop
+  entry c = c .before .before .before
+
+  abbrev args : (c : Moved) → sweep-lts.Args (sweep-calls t) (sweep-at t) sweep.Post Inv-loop μ-loop (entry (turn c) .κs)
+  args c = entry (turn c) .args
+
+  -- where the vertex has joined the clique
+  abbrev joined : Moved → sweep-lts.After-with (sweep-calls t) (sweep-at t) sweep.Post Inv-loop μ-loop
+  joined c = c .before .before .before .before
 
   -- the code takes one step of the sweep
   moved : (c : Moved)
-      → Step (masks (now (sweep-start (turn c) .args .rows))) (mask (sweep-start (turn c) .args .s)) (mask (turn c .loop .waiting))
-      (mask (sweep-start (turn c) .args .m)) (mask (turn c .loop .left)) (found c .before .lowest .result) (mask (c .before .before .before .before .with .result))
-      (mask (c .before .before .before .meet .result)) (mask (c .before .before .meet2 .result)) (mask (c .with2 .result)) (mask (c .before .rest .result))
+      → Step (masks (now (args c .rows))) (mask (args c .s)) (mask (turn c .loop .waiting)) (mask (args c .m)) (mask (turn c .loop .left))
+      (joined c .before .before .lowest .result) (mask (joined c .with .result)) (mask (c .before .before .before .meet .result))
+      (mask (c .before .before .meet2 .result)) (mask (c .with2 .result)) (mask (c .before .rest .result))
   moved c =
-      step (found c .before .lowest .ensures) (found c .get .ensures) (c .before .before .before .before .with .ensures) (c .before .before .before .meet .ensures)
-      (c .before .before .meet2 .ensures) (c .before .rest .ensures) (c .with2 .ensures)
+      step (joined c .before .before .lowest .ensures) (joined c .before .get .ensures) (joined c .with .ensures)
+      (c .before .before .before .meet .ensures) (c .before .before .meet2 .ensures) (c .before .rest .ensures) (c .with2 .ensures)
 
-  vertex : (c : sweep-lts.After-lowest (sweep-calls t) (sweep-at t) sweep.Post Inv-loop μ-loop) → c .lowest .result < length (masks (now (sweep-start (c .before .before .before) .args .rows)))
+  vertex : (c : sweep-lts.After-lowest (sweep-calls t) (sweep-at t) sweep.Post Inv-loop μ-loop)
+      → c .lowest .result < length (masks (now (entry (c .before .before .before) .args .rows)))
   vertex c = sweep-vertex (c .before .before .before .loop .inv .0 .sweeping) _ (c .lowest .ensures .member)
 
   sweep-add-more : sweep-lts.Need-add-more (sweep-calls t) (sweep-at t) sweep.Post Inv-loop μ-loop
@@ -159,7 +165,7 @@ module _ (t : ℕ) where
   sweep-with-requires : sweep-lts.Need-with-requires (sweep-calls t) (sweep-at t) sweep.Post Inv-loop μ-loop
   sweep-with-requires c κs =
       let turn = c .before .before .before .before in
-      omega (arith, vertex (c .before), sweep-start turn .pre .1 .taking .most)
+      omega (arith, vertex (c .before), entry turn .pre .1 .taking .most)
 
   sweep-meet-requires : sweep-lts.Need-meet-requires (sweep-calls t) (sweep-at t) sweep.Post Inv-loop μ-loop
   sweep-meet-requires c κs = tt
@@ -173,17 +179,17 @@ module _ (t : ℕ) where
   sweep-with-requires-2 : sweep-lts.Need-with-requires-2 (sweep-calls t) (sweep-at t) sweep.Post Inv-loop μ-loop
   sweep-with-requires-2 c κs =
       let lowest = c .before .before .before .before .before in
-      omega (arith, vertex lowest, sweep-start (lowest .before .before .before) .pre .1 .taking .most)
+      omega (arith, vertex lowest, entry (lowest .before .before .before) .pre .1 .taking .most)
 
   sweep-take-requires : sweep-lts.Need-take-requires (sweep-calls t) (sweep-at t) sweep.Post Inv-loop μ-loop
   sweep-take-requires c κs =
       let held = turn (c .before) .loop .inv .0 in
-      (omega (arith, swept-falls held (moved (c .before)), sweep-start (turn (c .before)) .pre .0), step-taking (held .sweeping) (moved (c .before)))
+      (omega (arith, swept-falls held (moved (c .before)), entry (turn (c .before)) .pre .0), step-taking (held .sweeping) (moved (c .before)))
 
   sweep-loop-less : sweep-lts.Need-loop-less (sweep-calls t) (sweep-at t) sweep.Post Inv-loop μ-loop
   sweep-loop-less c =
       let at = c .before .before .before .before in
-      walk-falls _ _ _ (found at .before .lowest .ensures) (at .before .rest .ensures)
+      walk-falls _ _ _ (joined at .before .before .lowest .ensures) (at .before .rest .ensures)
 
   sweep-loop-again : sweep-lts.Need-loop-again (sweep-calls t) (sweep-at t) sweep.Post Inv-loop μ-loop
   sweep-loop-again c =
@@ -200,35 +206,44 @@ module _ (t : ℕ) where
 -- ---- take
 
 module _ (t : ℕ) where
-  -- the places: the test of the candidates, where the first is taken out of them, and the test of the others
+  -- the tests whether there is a candidate, one beside the first, and one beside the first two
   abbrev Tested : Type 0
   Tested = take-lts.After-is-empty (take-calls t) (take-at t) take.Post
 
-  abbrev Second : Type 0
-  Second = take-lts.After-is-empty2 (take-calls t) (take-at t) take.Post
+  abbrev Tested2 : Type 0
+  Tested2 = take-lts.After-is-empty2 (take-calls t) (take-at t) take.Post
 
-  abbrev Third : Type 0
-  Third = take-lts.After-is-empty3 (take-calls t) (take-at t) take.Post
+  abbrev Tested3 : Type 0
+  Tested3 = take-lts.After-is-empty3 (take-calls t) (take-at t) take.Post
 
-  abbrev take-start : Tested → take-lts.Start (take-calls t) (take-at t) take.Post
-  take-start c = c .before .before .before
-
-  abbrev tested : Second → Tested
+  abbrev tested : Tested2 → Tested
   tested c = c .before .before .before .before .before .before
 
-  abbrev second : Third → Second
-  second c = c .before .before .before .before
+  abbrev tested2 : Tested3 → Tested2
+  tested2 c = c .before .before .before .before
 
-  -- u is the only candidate; u and v are
-  one : (c : take-lts.Then3 (take-calls t) (take-at t) take.Post) → mask (take-start (tested (c .before)) .args .c) ≡ 2 ^ (c .before .before .before .lowest .result)
-  one c = one-left (c .before .before .before .lowest .ensures) (c .before .before .rest .ensures) (empty-holds (c .before .is-empty2 .ensures) (c .if3 .taken))
+  abbrev start : Tested → take-lts.Start (take-calls t) (take-at t) take.Post
+  start c = c .before .before .before
+
+  abbrev candidates : Tested2 → ℕ
+  candidates c = mask (start (tested c) .args .c)
+
+  abbrev first : Tested2 → ℕ
+  first c = c .before .before .lowest .result
+
+  abbrev second : Tested3 → ℕ
+  second c = c .before .before .lowest2 .result
+
+  -- one candidate is left; two are
+  one : (c : take-lts.Then3 (take-calls t) (take-at t) take.Post) → candidates (c .before) ≡ 2 ^ first (c .before)
+  one c = let at = c .before in one-left (at .before .before .lowest .ensures) (at .before .rest .ensures) (empty-holds (at .is-empty2 .ensures) (c .if3 .taken))
 
   two : (c : take-lts.Then4 (take-calls t) (take-at t) take.Post)
-      → (mask (take-start (tested (second (c .before))) .args .c) ≡ with (2 ^ (second (c .before) .before .before .lowest .result)) (c .before .before .before .lowest2 .result))
-      × (second (c .before) .before .before .lowest .result ≢ c .before .before .before .lowest2 .result)
+      → (candidates (tested2 (c .before)) ≡ with (2 ^ first (tested2 (c .before))) (second (c .before))) × (first (tested2 (c .before)) ≢ second (c .before))
   two c =
-      two-left (second (c .before) .before .before .lowest .ensures) (second (c .before) .before .rest .ensures) (c .before .before .before .lowest2 .ensures)
-      (c .before .before .rest2 .ensures) (empty-holds (c .before .is-empty3 .ensures) (c .if4 .taken))
+      let at = c .before in
+      two-left (tested2 at .before .before .lowest .ensures) (tested2 at .before .rest .ensures) (at .before .before .lowest2 .ensures)
+      (at .before .rest2 .ensures) (empty-holds (at .is-empty3 .ensures) (c .if4 .taken))
 
   take-is-empty-requires : take-lts.Need-is-empty-requires (take-calls t) (take-at t) take.Post
   take-is-empty-requires c κs = tt
@@ -236,7 +251,7 @@ module _ (t : ℕ) where
   take-end-requires : take-lts.Need-end-requires (take-calls t) (take-at t) take.Post
   take-end-requires c κs =
       let none = c .before in
-      take-same (take-start (none .before) .pre .1) (empty-holds (none .before .is-empty .ensures) (none .if1 .taken))
+      take-same (start (none .before) .pre .1) (empty-holds (none .before .is-empty .ensures) (none .if1 .taken))
 
   take-same-length : take-lts.Need-same-length (take-calls t) (take-at t) take.Post
   take-same-length c = search needs
@@ -244,13 +259,13 @@ module _ (t : ℕ) where
   take-returns : take-lts.Need-returns (take-calls t) (take-at t) take.Post
   take-returns c =
       let none = c .before .before .before .before in
-      take-adds (take-start (none .before) .pre .1) (empty-holds (none .before .is-empty .ensures) (none .if1 .taken)) (c .before .before .end .ensures)
+      take-adds (start (none .before) .pre .1) (empty-holds (none .before .is-empty .ensures) (none .if1 .taken)) (c .before .before .end .ensures)
 
   take-is-few-requires : take-lts.Need-is-few-requires (take-calls t) (take-at t) take.Post
-  take-is-few-requires c κs = take-fits (take-start (c .before) .pre .1)
+  take-is-few-requires c κs = take-fits (start (c .before) .pre .1)
 
   take-returns-2 : take-lts.Need-returns-2 (take-calls t) (take-at t) take.Post
-  take-returns-2 c = few-adds (take-start (c .before .before .before) .pre .1) (c .before .is-few .ensures (c .if2 .taken)) _ _
+  take-returns-2 c = few-adds (start (c .before .before .before) .pre .1) (c .before .is-few .ensures (c .if2 .taken)) _ _
 
   take-lowest-requires : take-lts.Need-lowest-requires (take-calls t) (take-at t) take.Post
   take-lowest-requires c κs = let some = c .before .before in empty-fails (some .before .is-empty .ensures) (some .if1 .left)
@@ -262,7 +277,7 @@ module _ (t : ℕ) where
   take-is-empty-requires-2 c κs = tt
 
   take-end-with-requires : take-lts.Need-end-with-requires (take-calls t) (take-at t) take.Post
-  take-end-with-requires c κs = take-same (take-start (tested (c .before .before)) .pre .1) (one (c .before))
+  take-end-with-requires c κs = take-same (start (tested (c .before .before)) .pre .1) (one (c .before))
 
   take-same-length-2 : take-lts.Need-same-length-2 (take-calls t) (take-at t) take.Post
   take-same-length-2 c = search needs
@@ -270,7 +285,7 @@ module _ (t : ℕ) where
   take-returns-3 : take-lts.Need-returns-3 (take-calls t) (take-at t) take.Post
   take-returns-3 c =
       let last = c .before .before .before .before in
-      take-adds (take-start (tested (last .before)) .pre .1) (one last) (c .before .before .end-with .ensures)
+      take-adds (start (tested (last .before)) .pre .1) (one last) (c .before .before .end-with .ensures)
 
   take-lowest-requires-2 : take-lts.Need-lowest-requires-2 (take-calls t) (take-at t) take.Post
   take-lowest-requires-2 c κs = empty-fails (c .before .is-empty2 .ensures) (c .if3 .left)
@@ -282,7 +297,7 @@ module _ (t : ℕ) where
   take-is-empty-requires-3 c κs = tt
 
   take-end-pair-requires : take-lts.Need-end-pair-requires (take-calls t) (take-at t) take.Post
-  take-end-pair-requires c κs = (take-same (take-start (tested (second (c .before .before))) .pre .1) (two (c .before) .0), two (c .before) .1)
+  take-end-pair-requires c κs = (take-same (start (tested (tested2 (c .before .before))) .pre .1) (two (c .before) .0), two (c .before) .1)
 
   take-same-length-3 : take-lts.Need-same-length-3 (take-calls t) (take-at t) take.Post
   take-same-length-3 c = search needs
@@ -290,19 +305,19 @@ module _ (t : ℕ) where
   take-returns-4 : take-lts.Need-returns-4 (take-calls t) (take-at t) take.Post
   take-returns-4 c =
       let last = c .before .before .before .before in
-      take-adds (take-start (tested (second (last .before))) .pre .1) (two last .0) (c .before .before .end-pair .ensures)
+      take-adds (start (tested (tested2 (last .before))) .pre .1) (two last .0) (c .before .before .end-pair .ensures)
 
   take-is-far-requires : take-lts.Need-is-far-requires (take-calls t) (take-at t) take.Post
   take-is-far-requires c κs = tt
 
-  -- the entry, from where a pivot is asked for
+  -- more than two are left
   abbrev many : take-lts.After-is-far (take-calls t) (take-at t) take.Post → Tested
-  many c = tested (second (c .before .before))
+  many c = tested (tested2 (c .before .before))
 
   take-agenda-requires : take-lts.Need-agenda-requires (take-calls t) (take-at t) take.Post
   take-agenda-requires c κs =
-      let some = second (c .before .before) .before .before .before .before .before in
-      take-pickable (take-start (many c) .pre .1) (empty-fails (some .before .is-empty .ensures) (some .if1 .left))
+      let some = tested2 (c .before .before) .before .before .before .before .before in
+      take-pickable (start (many c) .pre .1) (empty-fails (some .before .is-empty .ensures) (some .if1 .left))
 
   take-minus-requires : take-lts.Need-minus-requires (take-calls t) (take-at t) take.Post
   take-minus-requires c κs = tt
@@ -310,9 +325,9 @@ module _ (t : ℕ) where
   take-sweep-requires : take-lts.Need-sweep-requires (take-calls t) (take-at t) take.Post
   take-sweep-requires c κs =
       let at = c .before in
-      let entry = take-start (many (at .before .before)) in (
-        omega (arith, cover-candidates (entry .pre .1) (at .before .agenda .ensures) (at .minus .ensures), entry .pre .0),
-        cover-sweeping (entry .pre .1) (at .before .agenda .ensures) (at .minus .ensures),
+      let at-start = start (many (at .before .before)) in (
+        omega (arith, cover-candidates (at-start .pre .1) (at .before .agenda .ensures) (at .minus .ensures), at-start .pre .0),
+        cover-sweeping (at-start .pre .1) (at .before .agenda .ensures) (at .minus .ensures),
       )
 
   take-same-length-4 : take-lts.Need-same-length-4 (take-calls t) (take-at t) take.Post
@@ -321,7 +336,7 @@ module _ (t : ℕ) where
   take-returns-5 : take-lts.Need-returns-5 (take-calls t) (take-at t) take.Post
   take-returns-5 c =
       let at = c .before .before .before .before in
-      cover-adds (take-start (many (at .before .before)) .pre .1) (at .before .agenda .ensures) (at .minus .ensures) (c .before .before .sweep .ensures)
+      cover-adds (start (many (at .before .before)) .pre .1) (at .before .agenda .ensures) (at .minus .ensures) (c .before .before .sweep .ensures)
 
 pub +sweep+take-spec : {M : Type 1} → statement M
 +sweep+take-spec =

@@ -1,5 +1,5 @@
--- The vertices shared by the members passed hold all that the members of s share, and lie in the row of each member passed: when none is left they are the common
--- neighbours.
+-- The vertices shared by the members passed hold all that the members of s share, and lie in the row of each member passed: when none is left they are
+-- the common neighbours.
 use native.Mathlib.Omega.{arith}
 use mathlib.Core.Path.{ap, _∙_}
 use borrow.Author.Needs.{needs}

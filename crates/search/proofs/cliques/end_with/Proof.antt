@@ -2,7 +2,8 @@
 use native.Mathlib.Omega.{arith}
 use borrow.Author.Needs.{needs}
 use Rattle.search.specs.SweepLaws.{joined}
-use Rattle.search.specs.TakeLaws.{take-fits, one-vertex, one-taking, one-adds}
+use Rattle.search.specs.TakeLaws.{take-fits}
+use Rattle.search.specs.EndLaws.{one-vertex, one-taking, one-adds}
 use Rattle.search.proofs.cliques.end_with.Statement.{statement}
 use Rattle.search.proofs.cliques.end_with.Tie as tie
 
@@ -25,7 +26,7 @@ with-requires c κs = let held = c .before .before .before .before .pre in omega
 end-requires : tie.Need-end-requires
 end-requires c κs =
     let at = c .before in
-    one-taking _ (start at .pre) (joined (at .with .ensures) (at .before .before .get .ensures) (at .before .meet .ensures))
+    one-taking (start at .pre) (joined (at .with .ensures) (at .before .before .get .ensures) (at .before .meet .ensures))
 
 same-length : tie.Need-same-length
 same-length c = search needs
@@ -33,7 +34,7 @@ same-length c = search needs
 returns : tie.Need-returns
 returns c =
     let at = c .before .before .before .before in
-    one-adds _ (start at .pre) (joined (at .with .ensures) (at .before .before .get .ensures) (at .before .meet .ensures)) (c .before .before .end .ensures)
+    one-adds (start at .pre) (joined (at .with .ensures) (at .before .before .get .ensures) (at .before .meet .ensures)) (c .before .before .end .ensures)
 
 pub end-with-spec : {M : Type 1} → statement M
 end-with-spec = tie.close (tie.spec get-requires meet-requires add-end with-requires end-requires same-length returns)
