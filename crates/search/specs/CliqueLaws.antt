@@ -1,5 +1,5 @@
--- Laws of cliques: their common neighbours, which a walk through the members finds, and the pivot. Every clique to be found has the pivot or a vertex that the pivot is
--- not adjacent to, so it is touched by the candidates that cover the others.
+-- Laws of cliques: their common neighbours, which a walk through the members finds, and the pivot. Every clique to be found has the pivot or a vertex
+-- that the pivot is not adjacent to, so it is touched by the candidates that cover the others.
 --
 --   Sharing g s l m      the members of s outside l are adjacent to all of m, and m has all common neighbours of s
 --   Pivoting g c m l b   b covers c, and the vertices l of m are still to be looked at
@@ -202,18 +202,11 @@ module _ {g : List ℕ} {s c m r : ℕ} (ask : Request) (ok : Valid g) (lk : 1 �
           adjacent : (w : ℕ) → In w x → In p (row g w)
           adjacent w i =
               by-bit s w (λ j. in-of-sub m (row g w) p (near .beside w j) (cover .member))
-              (λ o. omega (
-                arith,
-                f .upper w,
-                bit-or s c w,
-                none-out z w,
-                bit-and x r w,
-                cover .covers w,
-                bit-minus c (row g p) w,
-                bit-le c w,
-                bit-le (row g p) w,
-                ok .mutually p w lp (in-below (length g) x w (f .listed .below) i),
-              ))
+              (λ o.
+              let candidate : In w c = omega (arith, f .upper w, bit-or s c w, bit-le c w) in
+              let covered : bit r w ≡ 0 = omega (arith, none-out z w, bit-and x r w) in
+              let same = ok .mutually p w lp (in-below (length g) x w (f .listed .below) i) in
+              omega (arith, cover .covers w, bit-minus c (row g p) w, bit-le (row g p) w))
 
           out : bit x p ≡ 0
           out = by-bit x p (λ i. absurd (omega (arith, adjacent p i, ok .loopless p lp))) (λ o. o)

@@ -4,7 +4,8 @@
 --   Covering g c m r                r are candidates of c, among them all that some vertex of m, the pivot, is not adjacent to
 --   touched g ask s b t x           x is listed, holds s, has no member outside s, b and t, and has one in t
 --   AddsFound g ask s c before ..   the step from (before, count) to (after, r) adds what is found with s and the candidates c
---   Taking g ask have s c m         what a call relies on: the slack is 1, s is a clique of `have` members, m are its common neighbours, and c are candidates among them
+--   Taking g ask have s c m         what a call relies on: the slack is 1, s is a clique of `have` members, m are its common neighbours, and c are
+--                                   candidates among them
 --   Sweeping g ask have s b m t     the same of the candidates b and t, which are apart
 use Prim.Native.Nat.{ℕ, _+_, _^_, _≤_, _<_}
 use mathlib.Core.Path.{_≡_}

@@ -1,12 +1,12 @@
--- Laws of a clique with at most two candidates left, which need no pivot: with none it is maximal or adds nothing, a vertex alone is taken, of two that are adjacent both
--- are, and of two that are not each is taken by itself. Each is a sweep of no, one or two steps.
+-- Laws of a clique with at most two candidates left, which need no pivot: with none it is maximal or adds nothing, a vertex alone is taken, of two that
+-- are adjacent both are, and of two that are not each is taken by itself. Each is a sweep of no, one or two steps.
 use Prim.Native.Nat.{ℕ, _+_, _^_, _≤_, _<_}
 use native.Mathlib.Omega.{arith}
 use mathlib.Core.Path.{_≡_, refl, sym, ap, _∙_, subst}
 use mathlib.Core.Logic.{_≢_}
 use mathlib.Core.Bool.{Bool, true, false, not}
 use mathlib.Core.List.{List}
-use lib.Bits.{bitAnd}
+use lib.Bits.{bitAnd, and-zero-l}
 use lib.Dec.{T, eqb, ltb, eqb→eq, eqb-refl, ltb→lt, nltb→le, not-T}
 use lib.Pow.{pow-pos}
 use lib.ListN.{length}
@@ -29,6 +29,9 @@ use Rattle.search.specs.Cliques.{Covering, AddsFound, Taking, Sweeping}
 use Rattle.search.specs.CliqueLaws.{none-out, none-by, clique-adjacent, cover-all}
 use Rattle.search.specs.TakeLaws.{take-pickable, take-vertex, cover-sweeping, cover-adds}
 use Rattle.search.specs.SweepLaws.{Joined, Step, step-taking, Swept, swept-none, swept-more, swept-all}
+
+minus-self : (s : ℕ) → 0 ≡ minus s s
+minus-self s = ext 0 (minus s s) (λ u. omega (arith, bit-minus s s u, bit-none u))
 
 -- ---- no candidate
 
@@ -55,13 +58,15 @@ module _ {g : List ℕ} {ask : Request} {have s m : ℕ} (h : Taking g ask have 
         few : Bool
         few = ltb have (ask .floor)
 
+        enough : T (unless few s y) → ask .floor ≤ have
+        enough k = nltb→le have (ask .floor) (and-left (not few) (eqb y s) k)
+
         into : T (unless few s y) → T (found g ask s 0 y)
         into k =
             rw (eqb→eq y s (and-right (not few) (eqb y s) k)) (found-test g ask s 0 s (record {
               lower = sub-refl s;
               upper = λ u. omega (arith, bit-or s 0 u);
-              listed =
-                  record { below = h .below; large = omega (arith, nltb→le have (ask .floor) (and-left (not few) (eqb y s) k), h .counted); top = rw (h .slack) top };
+              listed = record { below = h .below; large = omega (arith, enough k, h .counted); top = rw (h .slack) top };
             }))
 
         back : T (found g ask s 0 y) → T (unless few s y)
@@ -83,16 +88,15 @@ module _ {g : List ℕ} {ask : Request} {have s m : ℕ} (h : Taking g ask have 
 
 module _ {g : List ℕ} {ask : Request} {have s c m v j w r : ℕ} (h : Taking g ask have s c m) (cover : Covering g c m (2 ^ v)) (d : Joined g s m v j w)
     (e : r ≡ bitAnd (without c v) (row g v)) where
-  sole : Step g s (without c v) m (2 ^ v) v j r w (with (without c v) v) (without (2 ^ v) v)
-  sole = record { member = bit-pow-same v; joined = d; inside = e; waiting = refl; left = refl }
+  sole : Step g s (without c v) m (2 ^ v) v j r w (with (without c v) v) 0
+  sole = record { member = bit-pow-same v; joined = d; inside = e; waiting = refl; left = minus-self (2 ^ v) }
 
   sole-taking : Taking g ask (have + 1) j r w
   sole-taking = step-taking (cover-sweeping h cover refl) sole
 
   sole-adds : {before after : List ℕ} {count o : ℕ} → AddsFound g ask j r before count after o → AddsFound g ask s c before count after o
   sole-adds {before} {after} {count} {o} x =
-      cover-adds h cover refl (swept-all (swept-more (swept-none (cover-sweeping h cover refl) before count) sole x)
-      (none-by (without (2 ^ v) v) (λ u. omega (arith, bit-minus (2 ^ v) (2 ^ v) u))))
+      cover-adds h cover refl (swept-all (swept-more (swept-none (cover-sweeping h cover refl) before count) sole x) refl)
 
 -- ---- one candidate
 
@@ -104,7 +108,7 @@ module _ {g : List ℕ} {ask : Request} {have s m v j w : ℕ} (h : Taking g ask
   cover = cover-all (take-pickable h (pow-pos v))
 
   none : 0 ≡ bitAnd (without (2 ^ v) v) (row g v)
-  none = sym (none-by (bitAnd (without (2 ^ v) v) (row g v)) (λ u. omega (arith, bit-and (without (2 ^ v) v) (row g v) u, bit-minus (2 ^ v) (2 ^ v) u)))
+  none = rw (← minus-self (2 ^ v)) (sym (and-zero-l (row g v)))
 
   pub one-taking : Taking g ask (have + 1) j 0 w
   one-taking = sole-taking h cover d none
@@ -125,8 +129,10 @@ module _ {g : List ℕ} {ask : Request} {have s m u v : ℕ} (apart : u ≢ v) (
   second-in : In v (with (2 ^ u) v)
   second-in = with-same (2 ^ u) v
 
-  strangers : (w : ℕ) → bit (2 ^ u) w + bit (2 ^ v) w ≤ 1
-  strangers w = single-out (2 ^ u) v w (bit-pow-other u v apart)
+  other-left : 2 ^ v ≡ without (with (2 ^ u) v) u
+  other-left =
+      ext (2 ^ v) (without (with (2 ^ u) v) u) (λ w.
+      omega (arith, bit-minus (with (2 ^ u) v) (2 ^ u) w, bit-with (2 ^ u) v w, single-out (2 ^ u) v w (bit-pow-other u v apart)))
 
   pub pair-vertices : (u < length g) × (v < length g)
   pair-vertices = (take-vertex h u first-in, take-vertex h v second-in)
@@ -144,15 +150,7 @@ module _ {g : List ℕ} {ask : Request} {have s m u v : ℕ} (apart : u ≢ v) (
 
     waits : 2 ^ v ≡ bitAnd (without (with (2 ^ u) v) u) (row g u)
     waits =
-        ext (2 ^ v) (bitAnd (without (with (2 ^ u) v) u) (row g u)) (λ x.
-        omega (
-          arith,
-          bit-and (without (with (2 ^ u) v) u) (row g u) x,
-          bit-minus (with (2 ^ u) v) (2 ^ u) x,
-          bit-with (2 ^ u) v x,
-          strangers x,
-          single-in (row g u) v x near,
-        ))
+        rw (← other-left) (ext (2 ^ v) (bitAnd (2 ^ v) (row g u)) (λ x. omega (arith, bit-and (2 ^ v) (row g u) x, single-in (row g u) v x near)))
 
     pub both-taking : Taking g ask (have + 1) j (2 ^ v) w
     both-taking = sole-taking h both-cover d waits
@@ -166,54 +164,32 @@ module _ {g : List ℕ} {ask : Request} {have s m u v : ℕ} (apart : u ≢ v) (
     each-cover : Covering g (with (2 ^ u) v) m (with (2 ^ u) v)
     each-cover = cover-all (take-pickable h (positive (with (2 ^ u) v) u first-in))
 
-    empty : 0 ≡ minus (with (2 ^ u) v) (with (2 ^ u) v)
-    empty = sym (none-by (minus (with (2 ^ u) v) (with (2 ^ u) v)) (λ x. omega (arith, bit-minus (with (2 ^ u) v) (with (2 ^ u) v) x)))
-
     sweeping : Sweeping g ask have s 0 m (with (2 ^ u) v)
-    sweeping = cover-sweeping h each-cover empty
+    sweeping = cover-sweeping h each-cover (minus-self (with (2 ^ u) v))
 
-    first : Step g s 0 m (with (2 ^ u) v) u j 0 w (with 0 u) (without (with (2 ^ u) v) u)
-    first =
-        record {
-          member = first-in;
-          joined = d;
-          inside = sym (none-by (bitAnd 0 (row g u)) (λ x. omega (arith, bit-and 0 (row g u) x, bit-none x)));
-          waiting = refl;
-          left = refl;
-        }
+    first : Step g s 0 m (with (2 ^ u) v) u j 0 w (with 0 u) (2 ^ v)
+    first = record { member = first-in; joined = d; inside = sym (and-zero-l (row g u)); waiting = refl; left = other-left }
 
     pub first-taking : Taking g ask (have + 1) j 0 w
     first-taking = step-taking sweeping first
 
     module _ {before between : List ℕ} {count n : ℕ} (x : AddsFound g ask j 0 before count between n) {i y : ℕ} (e : Joined g s m v i y) where
-      once : Swept g ask have s 0 m (with (2 ^ u) v) before count (with 0 u) (without (with (2 ^ u) v) u) between n
+      once : Swept g ask have s 0 m (with (2 ^ u) v) before count (with 0 u) (2 ^ v) between n
       once = swept-more (swept-none sweeping before count) first x
 
-      second : Step g s (with 0 u) m (without (with (2 ^ u) v) u) v i 0 y (with (with 0 u) v) (without (without (with (2 ^ u) v) u) v)
-      second =
-          record {
-            member = omega (arith, bit-minus (with (2 ^ u) v) (2 ^ u) v, second-in, bit-pow-other u v apart);
-            joined = e;
-            inside =
-                sym (none-by (bitAnd (with 0 u) (row g v)) (λ z.
-                omega (arith, bit-and (with 0 u) (row g v) z, bit-with 0 u z, bit-none z, single-out (row g v) u z other)));
-            waiting = refl;
-            left = refl;
-          }
+      second : Step g s (with 0 u) m (2 ^ v) v i 0 y (with (with 0 u) v) 0
+      second = record { member = bit-pow-same v; joined = e; inside = sym (none-by _ none); waiting = refl; left = minus-self (2 ^ v) }
         where
-          other : bit (row g v) u ≡ 0
-          other = omega (arith, away, h .valid .mutually u v (pair-vertices .0) (pair-vertices .1))
+          none : (z : ℕ) → bit (bitAnd (with 0 u) (row g v)) z ≡ 0
+          none z =
+              let away-too : bit (row g v) u ≡ 0 = omega (arith, away, h .valid .mutually u v (pair-vertices .0) (pair-vertices .1)) in
+              omega (arith, bit-and (with 0 u) (row g v) z, bit-with 0 u z, bit-none z, single-out (row g v) u z away-too)
 
       pub second-taking : Taking g ask (have + 1) i 0 y
       second-taking = step-taking (once .sweeping) second
 
       pub each-adds : {after : List ℕ} {o : ℕ} → AddsFound g ask i 0 between n after o → AddsFound g ask s (with (2 ^ u) v) before count after o
-      each-adds z = cover-adds h each-cover empty (swept-all (swept-more once second z) gone)
-        where
-          gone : without (without (with (2 ^ u) v) u) v ≡ 0
-          gone =
-              none-by (without (without (with (2 ^ u) v) u) v) (λ x.
-              omega (arith, bit-minus (without (with (2 ^ u) v) u) (2 ^ v) x, bit-minus (with (2 ^ u) v) (2 ^ u) x, bit-with (2 ^ u) v x))
+      each-adds z = cover-adds h each-cover (minus-self (with (2 ^ u) v)) (swept-all (swept-more once second z) refl)
 
 pub two-left : {c u d v e : ℕ} → Lowest c u → d ≡ without c u → Lowest d v → e ≡ without d v → e ≡ 0 → (c ≡ with (2 ^ u) v) × (u ≢ v)
 two-left {c} {u} {d} {v} {e} i ed j ee z = (
@@ -226,17 +202,8 @@ two-left {c} {u} {d} {v} {e} i ed j ee z = (
 
     same : (w : ℕ) → bit c w ≡ bit (with (2 ^ u) v) w
     same w =
-        omega (
-          arith,
-          none-out (sym ee ∙ z) w,
-          bit-minus d (2 ^ v) w,
-          ap (λ (x : ℕ). bit x w) ed,
-          bit-minus c (2 ^ u) w,
-          single-in c u w (i .member),
-          single-in (without c u) v w second,
-          bit-with (2 ^ u) v w,
-          bit-le c w,
-        )
+        let rest : bit (without c u) w ≡ bit (2 ^ v) w = ap (λ (x : ℕ). bit x w) (sym ed ∙ one-left j ee z) in
+        omega (arith, bit-minus c (2 ^ u) w, single-in c u w (i .member), bit-with (2 ^ u) v w, bit-le c w)
 
 -- the test whether the row r of u has v
 pub row-has : {r w : ℕ} {b : Bool} (v : ℕ) → r ≡ w → b ≡ has r v → b ≡ true → In v w

@@ -4,7 +4,7 @@
 --   Joined g s m v j w                  j is s with v, and w are the vertices of m that v is adjacent to
 --   Step g s b m t v j r w b2 t2        one step takes v out of t: the candidates with v are r, and b and t become b2 and t2
 --   Swept g ask have s b m t .. b2 t2 ..   a sweep on its way: b and t have become b2 and t2, and what was to be added so far is in the slots
-use Prim.Native.Nat.{ℕ, _+_, _^_, _≤_, _<_}
+use Prim.Native.Nat.{ℕ, _+_, _-_, _^_, _≤_, _<_, min, max}
 use native.Mathlib.Omega.{arith}
 use native.Mathlib.Decide.{ℕ-discrete}
 use mathlib.Core.Path.{_≡_, refl, ap, _∙_}
@@ -24,6 +24,7 @@ use Rattle.sets.specs.SubsetLaws.{sub-trans, sub-number, with-sub, with-same, w
 use Rattle.sets.specs.SizeLaws.{size-with}
 use Rattle.sets.specs.WalkLaws.{without-less}
 use Rattle.judging.specs.Request.{Request}
+use Rattle.judging.specs.Plex.{Plex}
 use Rattle.lists.specs.Placing.{union, Apart, Adds}
 use Rattle.lists.specs.PlacingLaws.{adds-none, adds-same, adds-both}
 use Rattle.search.specs.Found.{found, Found}
@@ -31,6 +32,14 @@ use Rattle.search.specs.FoundLaws.{found-holds, found-test}
 use Rattle.search.specs.Cliques.{touched, AddsFound, Taking, Sweeping}
 use Rattle.search.specs.CliqueLaws.{none-out, none-by, clique-near, common-apart, common-vertex, common-out, common-clique, common-with}
 use Rattle.search.specs.CliqueLaws.{touched-holds, touched-test}
+
+-- ---- pointwise
+
+bit-taken : (s b r v u : ℕ) → bit (bitOr (with s v) (bitAnd b r)) u ≡ max (max (bit s u) (bit (2 ^ v) u)) (min (bit b u) (bit r u))
+bit-taken s b r v u = rw (bit-or, bit-with, bit-and)
+
+bit-left : (x t v u : ℕ) → bit (bitAnd x (without t v)) u ≡ min (bit x u) (bit t u - bit (2 ^ v) u)
+bit-left x t v u = rw (bit-and, bit-minus)
 
 -- ---- one step of a sweep: what is found with v and the candidates of b that v is adjacent to, and what is touched by the rest of t
 
@@ -96,36 +105,18 @@ module _ {g : List ℕ} {ask : Request} {have s b m t : ℕ} (h : Sweeping g ask
       taken f j z = record { lower = with-sub s v x (f .lower) j; upper = within; listed = f .listed }
         where
           waits : (u : ℕ) → bit x u ≤ bit s u + bit b u + bit (2 ^ v) u
-          waits u =
-              omega (arith, f .upper u, bit-or s (bitOr b t) u, bit-or b t u, none-out z u, bit-and x (without t v) u, bit-minus t (2 ^ v) u)
+          waits u = omega (arith, f .upper u, bit-or s (bitOr b t) u, bit-or b t u, none-out z u, bit-left x t v u)
 
           within : (u : ℕ) → bit x u ≤ bit (bitOr (with s v) (bitAnd b (row g v))) u
           within u =
-              omega (
-                arith,
-                waits u,
-                clique-near g (h .taking .valid) x v (f .listed .below) (rw (h .taking .slack) at (f .listed .top .0)) j u,
-                bit-or (with s v) (bitAnd b (row g v)) u,
-                bit-with s v u,
-                bit-and b (row g v) u,
-                bit-le x u,
-              )
+              let clique : Plex g 1 x = rw (h .taking .slack) at (f .listed .top .0) in
+              omega (arith, waits u, clique-near g (h .taking .valid) x v (f .listed .below) clique j u, bit-taken s b (row g v) v u, bit-le x u)
 
       given : Found g ask (with s v) (bitAnd b (row g v)) x → Found g ask s (bitOr b t) x
       given f =
           record {
             lower = sub-trans s (with s v) x (sub-with s v) (f .lower);
-            upper = λ u.
-                omega (
-                  arith,
-                  f .upper u,
-                  bit-or (with s v) (bitAnd b (row g v)) u,
-                  bit-with s v u,
-                  bit-and b (row g v) u,
-                  bit-or s (bitOr b t) u,
-                  bit-or b t u,
-                  single-in t v u i,
-                );
+            upper = λ u. omega (arith, f .upper u, bit-taken s b (row g v) v u, bit-or s (bitOr b t) u, bit-or b t u, single-in t v u i);
             listed = f .listed;
           }
 
@@ -133,32 +124,18 @@ module _ {g : List ℕ} {ask : Request} {have s b m t : ℕ} (h : Sweeping g ask
       alone : Found g ask (with s v) (bitAnd b (row g v)) x → bitAnd x (without t v) ≡ 0
       alone f =
           none-by (bitAnd x (without t v)) (λ u.
-          omega (
-            arith,
-            f .upper u,
-            bit-or (with s v) (bitAnd b (row g v)) u,
-            bit-with s v u,
-            bit-and b (row g v) u,
-            bit-and x (without t v) u,
-            bit-minus t (2 ^ v) u,
-            h .apart u,
-            common-apart (h .taking .valid) (h .taking .common) u,
-            h .taking .part u,
-            bit-or b t u,
-            bit-le t u,
-          ))
+          let out : bit s u + bit t u ≤ 1 = omega (arith, common-apart (h .taking .valid) (h .taking .common) u, h .taking .part u, bit-or b t u) in
+          omega (arith, f .upper u, bit-taken s b (row g v) v u, bit-left x t v u, h .apart u, bit-le t u))
 
       fewer : bitAnd x (without t v) ≤ bitAnd x t
-      fewer = sub-number (bitAnd x (without t v)) (bitAnd x t) (λ u. omega (arith, bit-and x (without t v) u, bit-and x t u, bit-minus t (2 ^ v) u))
+      fewer = sub-number (bitAnd x (without t v)) (bitAnd x t) (λ u. omega (arith, bit-left x t v u, bit-and x t u))
 
       -- a clique that meets t and not the rest of t has v
       only : bitAnd x (without t v) ≡ 0 → 0 < bitAnd x t → In v x
-      only z l =
-          by-bit x v (λ j. j) (λ o. absurd (omega (
-            arith,
-            none-by (bitAnd x t) (λ u.
-                omega (arith, none-out z u, bit-and x (without t v) u, bit-and x t u, bit-minus t (2 ^ v) u, single-out x v u o)),
-          )))
+      only z l = by-bit x v (λ j. j) (λ o. absurd (omega (arith, missed o)))
+        where
+          missed : bit x v ≡ 0 → bitAnd x t ≡ 0
+          missed o = none-by (bitAnd x t) (λ u. omega (arith, none-out z u, bit-left x t v u, bit-and x t u, single-out x v u o))
 
     sweep-apart : Apart (2 ^ length g) (first g ask s b v) (rest g ask s b t v)
     sweep-apart x l y z =

@@ -121,7 +121,8 @@ fn end_pair(
     count: usize,
 ) -> usize
     requires { ⌜ Taking (masks (now rows)) (request 1 q) have (mask s) (with (2 ^ u) v) (mask m) × (u ≢ v) ⌝ }
-    ensures { λ r. ⌜ AddsFound (masks (now (rows .entry))) (request 1 q) (mask s) (with (2 ^ u) v) (masks (now (slots .entry))) count (masks (now (slots .exit))) r ⌝ }
+    ensures { λ r. ⌜ AddsFound (masks (now (rows .entry))) (request 1 q) (mask s) (with (2 ^ u) v)
+        (masks (now (slots .entry))) count (masks (now (slots .exit))) r ⌝ }
 {
     let row = sets::get(rows, u);
     let more = have + 1;

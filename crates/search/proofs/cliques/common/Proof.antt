@@ -58,17 +58,5 @@ returns c = sharing-all (c .before .before .loop .inv) (walk-over _ _ (c .before
 pub common-spec : {M : Type 1} → statement M
 common-spec =
     tie.close
-    (tie.spec
-    Inv-loop
-    μ-loop
-    count-requires
-    full-requires
-    loop-holds
-    is-empty-requires
-    lowest-requires
-    rest-requires
-    get-requires
-    meet-requires
-    loop-less
-    loop-again
-    returns)
+    (tie.spec Inv-loop μ-loop count-requires full-requires loop-holds is-empty-requires lowest-requires rest-requires get-requires meet-requires
+    loop-less loop-again returns)

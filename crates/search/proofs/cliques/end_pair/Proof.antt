@@ -108,19 +108,5 @@ returns-2 c =
 pub end-pair-spec : {M : Type 1} → statement M
 end-pair-spec =
     tie.close
-    (tie.spec
-    get-requires
-    add-more
-    with-requires
-    meet-requires
-    has-requires
-    end-with-requires
-    same-length
-    returns
-    end-requires
-    get-requires-2
-    meet-requires-2
-    with-requires-2
-    end-requires-2
-    same-length-2
-    returns-2)
+    (tie.spec get-requires add-more with-requires meet-requires has-requires end-with-requires same-length returns end-requires get-requires-2
+    meet-requires-2 with-requires-2 end-requires-2 same-length-2 returns-2)

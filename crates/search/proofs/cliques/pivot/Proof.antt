@@ -68,19 +68,5 @@ returns-2 c = c .before .before .loop .inv .cover
 pub pivot-spec : {M : Type 1} → statement M
 pivot-spec =
     tie.close
-    (tie.spec
-    Inv-loop
-    μ-loop
-    loop-holds
-    is-empty-requires
-    lowest-requires
-    rest-requires
-    get-requires
-    minus-requires
-    size-requires
-    returns
-    loop-less
-    loop-again
-    loop-less-2
-    loop-again-2
-    returns-2)
+    (tie.spec Inv-loop μ-loop loop-holds is-empty-requires lowest-requires rest-requires get-requires minus-requires size-requires returns
+    loop-less loop-again loop-less-2 loop-again-2 returns-2)

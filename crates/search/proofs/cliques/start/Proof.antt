@@ -50,13 +50,4 @@ returns-2 c =
 pub start-spec : {M : Type 1} → statement M
 start-spec =
     tie.close
-    (tie.spec
-    is-empty-requires
-    end-requires
-    same-length
-    returns
-    agenda-requires
-    minus-requires
-    sweep-requires
-    same-length-2
-    returns-2)
+    (tie.spec is-empty-requires end-requires same-length returns agenda-requires minus-requires sweep-requires same-length-2 returns-2)
