@@ -206,44 +206,31 @@ module _ (t : ℕ) where
 -- ---- take
 
 module _ (t : ℕ) where
-  -- the tests whether there is a candidate, one beside the first, and one beside the first two
-  abbrev Tested : Type 0
-  Tested = take-lts.After-is-empty (take-calls t) (take-at t) take.Post
-
-  abbrev Tested2 : Type 0
-  Tested2 = take-lts.After-is-empty2 (take-calls t) (take-at t) take.Post
-
-  abbrev Tested3 : Type 0
-  Tested3 = take-lts.After-is-empty3 (take-calls t) (take-at t) take.Post
-
-  abbrev tested : Tested2 → Tested
-  tested c = c .before .before .before .before .before .before
-
-  abbrev tested2 : Tested3 → Tested2
+  -- the tests whether there is a candidate, one beside the first, and one beside these two; the entry
+  abbrev tested2 : take-lts.After-is-empty3 (take-calls t) (take-at t) take.Post → take-lts.After-is-empty2 (take-calls t) (take-at t) take.Post
   tested2 c = c .before .before .before .before
 
-  abbrev start : Tested → take-lts.Start (take-calls t) (take-at t) take.Post
+  abbrev tested : take-lts.After-is-empty2 (take-calls t) (take-at t) take.Post → take-lts.After-is-empty (take-calls t) (take-at t) take.Post
+  tested c = c .before .before .before .before .before .before
+
+  abbrev start : take-lts.After-is-empty (take-calls t) (take-at t) take.Post → take-lts.Start (take-calls t) (take-at t) take.Post
   start c = c .before .before .before
 
-  abbrev candidates : Tested2 → ℕ
-  candidates c = mask (start (tested c) .args .c)
-
-  abbrev first : Tested2 → ℕ
-  first c = c .before .before .lowest .result
-
-  abbrev second : Tested3 → ℕ
-  second c = c .before .before .lowest2 .result
-
-  -- one candidate is left; two are
-  one : (c : take-lts.Then3 (take-calls t) (take-at t) take.Post) → candidates (c .before) ≡ 2 ^ first (c .before)
-  one c = let at = c .before in one-left (at .before .before .lowest .ensures) (at .before .rest .ensures) (empty-holds (at .is-empty2 .ensures) (c .if3 .taken))
+  -- the candidates are the lowest, u, alone; or u and v
+  one : (c : take-lts.Then3 (take-calls t) (take-at t) take.Post)
+      → mask (start (tested (c .before)) .args .c) ≡ 2 ^ (c .before .before .before .lowest .result)
+  one c =
+      let first = c .before .before in
+      one-left (first .before .lowest .ensures) (first .rest .ensures) (empty-holds (c .before .is-empty2 .ensures) (c .if3 .taken))
 
   two : (c : take-lts.Then4 (take-calls t) (take-at t) take.Post)
-      → (candidates (tested2 (c .before)) ≡ with (2 ^ first (tested2 (c .before))) (second (c .before))) × (first (tested2 (c .before)) ≢ second (c .before))
+      → let u = tested2 (c .before) .before .before .lowest .result in let v = c .before .before .before .lowest2 .result in
+      (mask (start (tested (tested2 (c .before))) .args .c) ≡ with (2 ^ u) v) × (u ≢ v)
   two c =
-      let at = c .before in
-      two-left (tested2 at .before .before .lowest .ensures) (tested2 at .before .rest .ensures) (at .before .before .lowest2 .ensures)
-      (at .before .rest2 .ensures) (empty-holds (at .is-empty3 .ensures) (c .if4 .taken))
+      let first = tested2 (c .before) .before in
+      let second = c .before .before in
+      two-left (first .before .lowest .ensures) (first .rest .ensures) (second .before .lowest2 .ensures) (second .rest2 .ensures)
+      (empty-holds (c .before .is-empty3 .ensures) (c .if4 .taken))
 
   take-is-empty-requires : take-lts.Need-is-empty-requires (take-calls t) (take-at t) take.Post
   take-is-empty-requires c κs = tt
@@ -311,7 +298,7 @@ module _ (t : ℕ) where
   take-is-far-requires c κs = tt
 
   -- more than two are left
-  abbrev many : take-lts.After-is-far (take-calls t) (take-at t) take.Post → Tested
+  abbrev many : take-lts.After-is-far (take-calls t) (take-at t) take.Post → take-lts.After-is-empty (take-calls t) (take-at t) take.Post
   many c = tested (tested2 (c .before .before))
 
   take-agenda-requires : take-lts.Need-agenda-requires (take-calls t) (take-at t) take.Post
