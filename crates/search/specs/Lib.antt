@@ -12,7 +12,10 @@ pub mod SiftLaws
 pub mod Ready
 pub mod Calls
 pub mod Cliques
-pub mod CliqueEnds
+pub mod CliqueLaws
+pub mod SweepLaws
+pub mod TakeLaws
+pub mod EndLaws
 pub mod TopLaws
 pub mod OutcomeLaws
 pub mod Edges

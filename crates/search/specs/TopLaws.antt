@@ -40,7 +40,8 @@ use Rattle.search.specs.Found.{found, Compatible, Near}
 use Rattle.search.specs.FoundLaws.{found-holds, found-test}
 use Rattle.search.specs.NearRows.{Pairing}
 use Rattle.search.specs.Ready.{Ready}
-use Rattle.search.specs.Cliques.{Common, Taking, clique-adjacent}
+use Rattle.search.specs.Cliques.{Common, Taking}
+use Rattle.search.specs.CliqueLaws.{clique-adjacent}
 use Rattle.search.specs.Calls.{slotsCause, listReply, placed, slotsAfter, afterCheck}
 
 pub record Candidates (g : List ℕ) (ask : Request) (c : ℕ) : Type 0 where
@@ -139,14 +140,12 @@ module _ (g : List ℕ) (ask : Request) where
         }
 
     -- at slack 1 the candidates are common neighbours
-    pub start-taking : (have m : ℕ) → ask .slack ≡ 1 → have ≡ size s → Common g s m → Taking g ask have s c m count
+    pub start-taking : (have m : ℕ) → ask .slack ≡ 1 → have ≡ size s → Common g s m → Taking g ask have s c m
     start-taking have m one e k =
         record {
-          some = h .accepted .sized .some;
           most = h .accepted .sized .most;
           valid = h .accepted .valid;
           slack = one;
-          floor = h .accepted .floor .1;
           below = h .fine .below;
           counted = e;
           clique = subst (λ (x : ℕ). Plex g x s) one (h .fine .plexed);
@@ -261,8 +260,8 @@ module _ (g : List ℕ) (ask : Request) where
 
 -- ---- at slack 1 the search for cliques, which knows only the floor, does what is to be done
 
-pub taking-one : (g : List ℕ) (k q have s c m count : ℕ) → k ≡ 1 → Taking g (request k q) have s c m count → Taking g (request 1 q) have s c m count
-taking-one g k q have s c m count e h = subst (λ (x : ℕ). Taking g (request x q) have s c m count) e h
+pub taking-one : (g : List ℕ) (k q have s c m : ℕ) → k ≡ 1 → Taking g (request k q) have s c m → Taking g (request 1 q) have s c m
+taking-one g k q have s c m e h = subst (λ (x : ℕ). Taking g (request x q) have s c m) e h
 
 pub adds-one : (g : List ℕ) (k q s c : ℕ) (before : List ℕ) (count : ℕ) (after : List ℕ) (r : ℕ) → k ≡ 1
     → Adds (2 ^ length g) (found g (request 1 q) s c) before count after r → Adds (2 ^ length g) (found g (request k q) s c) before count after r

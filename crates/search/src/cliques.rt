@@ -11,8 +11,7 @@ ghost use Rattle.judging.specs.Request.{request};
 ghost use Rattle.lists.specs.Placing.{Adds};
 ghost use Rattle.judging.specs.Setting.{Inside};
 ghost use Rattle.search.specs.Ready.{unless};
-ghost use Rattle.search.specs.Cliques.{Common, Covering, Taking, Sweeping, touched};
-ghost use Rattle.search.specs.Found.{found};
+ghost use Rattle.search.specs.Cliques.{Common, Covering, touched, AddsFound, Taking, Sweeping};
 ghost use Rattle.search.specs.Choice.{Pickable};
 use sets::Set;
 
@@ -82,9 +81,8 @@ fn end(
     slots: &mut [u64],
     count: usize,
 ) -> usize
-    requires { ⌜ Taking (masks (now rows)) (request 1 q) have (mask s) 0 (mask m) count ⌝ }
-    ensures { λ r. ⌜ Adds (2 ^ length (masks (now (rows .entry)))) (found (masks (now (rows .entry))) (request 1 q) (mask s) 0)
-        (masks (now (slots .entry))) count (masks (now (slots .exit))) r ⌝ }
+    requires { ⌜ Taking (masks (now rows)) (request 1 q) have (mask s) 0 (mask m) ⌝ }
+    ensures { λ r. ⌜ AddsFound (masks (now (rows .entry))) (request 1 q) (mask s) 0 (masks (now (slots .entry))) count (masks (now (slots .exit))) r ⌝ }
 {
     if sets::is_empty(m) {
         return place_clique(q, have, s, sets::count(rows), slots, count);
@@ -103,9 +101,8 @@ fn end_with(
     slots: &mut [u64],
     count: usize,
 ) -> usize
-    requires { ⌜ Taking (masks (now rows)) (request 1 q) have (mask s) (2 ^ v) (mask m) count ⌝ }
-    ensures { λ r. ⌜ Adds (2 ^ length (masks (now (rows .entry)))) (found (masks (now (rows .entry))) (request 1 q) (mask s) (2 ^ v))
-        (masks (now (slots .entry))) count (masks (now (slots .exit))) r ⌝ }
+    requires { ⌜ Taking (masks (now rows)) (request 1 q) have (mask s) (2 ^ v) (mask m) ⌝ }
+    ensures { λ r. ⌜ AddsFound (masks (now (rows .entry))) (request 1 q) (mask s) (2 ^ v) (masks (now (slots .entry))) count (masks (now (slots .exit))) r ⌝ }
 {
     let beside = sets::meet(m, sets::get(rows, v));
     end(rows, q, have + 1, sets::with(s, v), beside, slots, count)
@@ -123,8 +120,8 @@ fn end_pair(
     slots: &mut [u64],
     count: usize,
 ) -> usize
-    requires { ⌜ Taking (masks (now rows)) (request 1 q) have (mask s) (with (2 ^ u) v) (mask m) count × (u ≢ v) ⌝ }
-    ensures { λ r. ⌜ Adds (2 ^ length (masks (now (rows .entry)))) (found (masks (now (rows .entry))) (request 1 q) (mask s) (with (2 ^ u) v))
+    requires { ⌜ Taking (masks (now rows)) (request 1 q) have (mask s) (with (2 ^ u) v) (mask m) × (u ≢ v) ⌝ }
+    ensures { λ r. ⌜ AddsFound (masks (now (rows .entry))) (request 1 q) (mask s) (with (2 ^ u) v)
         (masks (now (slots .entry))) count (masks (now (slots .exit))) r ⌝ }
 {
     let row = sets::get(rows, u);
@@ -177,9 +174,8 @@ fn take(
     slots: &mut [u64],
     count: usize,
 ) -> usize
-    requires { ⌜ Taking (masks (now rows)) (request 1 q) have (mask s) (mask c) (mask m) count ⌝ }
-    ensures { λ r. ⌜ Adds (2 ^ length (masks (now (rows .entry)))) (found (masks (now (rows .entry))) (request 1 q) (mask s) (mask c))
-        (masks (now (slots .entry))) count (masks (now (slots .exit))) r ⌝ }
+    requires { ⌜ Taking (masks (now rows)) (request 1 q) have (mask s) (mask c) (mask m) ⌝ }
+    ensures { λ r. ⌜ AddsFound (masks (now (rows .entry))) (request 1 q) (mask s) (mask c) (masks (now (slots .entry))) count (masks (now (slots .exit))) r ⌝ }
 {
     if sets::is_empty(c) {
         return end(rows, q, have, s, m, slots, count);
@@ -214,7 +210,7 @@ fn sweep(
     slots: &mut [u64],
     count: usize,
 ) -> usize
-    requires { ⌜ Sweeping (masks (now rows)) (request 1 q) have (mask s) (mask base) (mask m) (mask todo) count ⌝ }
+    requires { ⌜ Sweeping (masks (now rows)) (request 1 q) have (mask s) (mask base) (mask m) (mask todo) ⌝ }
     ensures { λ r. ⌜ Adds (2 ^ length (masks (now (rows .entry)))) (touched (masks (now (rows .entry))) (request 1 q) (mask s) (mask base) (mask todo))
         (masks (now (slots .entry))) count (masks (now (slots .exit))) r ⌝ }
 {
@@ -246,9 +242,8 @@ pub fn start(
     slots: &mut [u64],
     count: usize,
 ) -> usize
-    requires { ⌜ Taking (masks (now rows)) (request 1 q) have (mask s) (mask c) (mask m) count ⌝ }
-    ensures { λ r. ⌜ Adds (2 ^ length (masks (now (rows .entry)))) (found (masks (now (rows .entry))) (request 1 q) (mask s) (mask c))
-        (masks (now (slots .entry))) count (masks (now (slots .exit))) r ⌝ }
+    requires { ⌜ Taking (masks (now rows)) (request 1 q) have (mask s) (mask c) (mask m) ⌝ }
+    ensures { λ r. ⌜ AddsFound (masks (now (rows .entry))) (request 1 q) (mask s) (mask c) (masks (now (slots .entry))) count (masks (now (slots .exit))) r ⌝ }
 {
     if sets::is_empty(c) {
         return end(rows, q, have, s, m, slots, count);

@@ -19,7 +19,7 @@ size-requires c κs = search needs
 start-requires : tie.Need-start-requires
 start-requires c κs =
     let start = c .before .before .before .before .before .before .before in
-    taking-one _ _ _ _ _ _ _ _ (omega arith) (start-taking _ _ _ _ _ _ (start .pre) _ _ (omega arith) (c .before .size .ensures .0) (c .before .before .common .ensures))
+    taking-one _ _ _ _ _ _ _ (omega arith) (start-taking _ _ _ _ _ 0 (start .pre) _ _ (omega arith) (c .before .size .ensures .0) (c .before .before .common .ensures))
 
 same-length : tie.Need-same-length
 same-length c = search needs

@@ -1,20 +1,23 @@
--- The proof of the cycle of calls {sweep, take}: a sweep adds what each vertex to take adds in turn, and a grown clique adds what its
--- ends add where at most two candidates are left, and else what a sweep over the candidates of a pivot adds. The measure is the candidates, which fall when a vertex is taken.
-use Prim.Native.Nat.{ℕ, _+_, _*_, _<_}
+-- A sweep adds what each vertex to take adds in turn. A clique adds what its end adds where at most two candidates are left, and else what a sweep over
+-- the candidates of a pivot adds. The measure is the candidates, which fall when a vertex is taken.
+use Prim.Native.Nat.{ℕ, _+_, _*_, _^_, _<_}
 use borrow.Fn.Kinds.{In}
 use borrow.Fn.PlainCycle.{Measures, is, falls, and}
-use mathlib.Core.Path.{_≡_, refl, sym, ap, _∙_}
+use mathlib.Core.Path.{_≡_, refl, _∙_}
+use mathlib.Core.Logic.{_≢_}
 use native.Mathlib.Omega.{arith}
 use borrow.Author.Needs.{needs}
-use borrow.Author.Tests.{eqb-true, eqb-false}
-use lib.Bits.{bitAnd, bitOr}
+use denote.Ref.{now}
+use lib.Bits.{bitOr}
 use lib.ListN.{length}
 use Rattle.judging.specs.Request.{request}
+use Rattle.sets.specs.Set.{with}
 use Rattle.sets.specs.Words.{mask, masks}
-use Rattle.sets.specs.SubsetLaws.{positive-of}
 use Rattle.sets.specs.WalkLaws.{walk-falls, walk-goes-on, walk-over}
-use Rattle.search.specs.Cliques.{sweep-fits, take-fits, sweep-vertex, Swept, swept-none, swept-falls, swept-taking, swept-more, swept-all, few-adds, next-candidates, next-sweeping, next-adds}
-use Rattle.search.specs.CliqueEnds.{one-left, two-left, taking-at, adds-at, taking-pickable}
+use Rattle.search.specs.CliqueLaws.{empty-holds, empty-fails}
+use Rattle.search.specs.SweepLaws.{sweep-vertex, Step, step, step-taking, Swept, swept-none, swept-falls, swept-more, swept-all}
+use Rattle.search.specs.TakeLaws.{take-fits, few-adds, take-pickable, take-same, take-adds, cover-candidates, cover-sweeping, cover-adds}
+use Rattle.search.specs.EndLaws.{one-left, two-left}
 use Rattle.search.proofs.cliques.sweep.Reads as sweep
 use Rattle.search.proofs.cliques.sweep.Kinds as sweep-kinds
 use Rattle.search.proofs.cliques.+sweep+take.Lts-sweep as sweep-lts
@@ -108,24 +111,61 @@ take-calls t = (
   sweep.Post,
 )
 
+-- ---- sweep
+
 module _ (t : ℕ) where
+  -- the places of a turn: where it begins, and where the vertex to take has left the others and waits
+  abbrev Turn : Type 0
+  Turn = sweep-lts.At-loop (sweep-calls t) (sweep-at t) sweep.Post Inv-loop μ-loop
+
+  abbrev Moved : Type 0
+  Moved = sweep-lts.After-with2 (sweep-calls t) (sweep-at t) sweep.Post Inv-loop μ-loop
+
+  abbrev turn : Moved → Turn
+  turn c = c .before .before .before .before .before .before .before .before .before
+
+  abbrev entry : Turn → sweep-lts.Start (sweep-calls t) (sweep-at t) sweep.Post Inv-loop μ-loop
+  entry c = c .before .before .before
+
+  abbrev args : (c : Moved) → sweep-lts.Args (sweep-calls t) (sweep-at t) sweep.Post Inv-loop μ-loop (entry (turn c) .κs)
+  args c = entry (turn c) .args
+
+  -- where the vertex has joined the clique
+  abbrev joined : Moved → sweep-lts.After-with (sweep-calls t) (sweep-at t) sweep.Post Inv-loop μ-loop
+  joined c = c .before .before .before .before
+
+  -- the code takes one step of the sweep
+  moved : (c : Moved)
+      → Step (masks (now (args c .rows))) (mask (args c .s)) (mask (turn c .loop .waiting)) (mask (args c .m)) (mask (turn c .loop .left))
+      (joined c .before .before .lowest .result) (mask (joined c .with .result)) (mask (c .before .before .before .meet .result))
+      (mask (c .before .before .meet2 .result)) (mask (c .with2 .result)) (mask (c .before .rest .result))
+  moved c =
+      step (joined c .before .before .lowest .ensures) (joined c .before .get .ensures) (joined c .with .ensures)
+      (c .before .before .before .meet .ensures) (c .before .before .meet2 .ensures) (c .before .rest .ensures) (c .with2 .ensures)
+
+  vertex : (c : sweep-lts.After-lowest (sweep-calls t) (sweep-at t) sweep.Post Inv-loop μ-loop)
+      → c .lowest .result < length (masks (now (entry (c .before .before .before) .args .rows)))
+  vertex c = sweep-vertex (c .before .before .before .loop .inv .0 .sweeping) _ (c .lowest .ensures .member)
+
   sweep-add-more : sweep-lts.Need-add-more (sweep-calls t) (sweep-at t) sweep.Post Inv-loop μ-loop
-  sweep-add-more c = omega (arith, sweep-fits _ _ _ _ _ _ _ _ (c .before .before .pre .1))
+  sweep-add-more c = omega (arith, take-fits (c .before .before .pre .1 .taking))
 
   sweep-loop-holds : sweep-lts.Need-loop-holds (sweep-calls t) (sweep-at t) sweep.Post Inv-loop μ-loop
-  sweep-loop-holds c = (swept-none _ _ _ _ _ _ _ _ _ (c .before .before .pre .1), refl)
+  sweep-loop-holds c = (swept-none (c .before .before .pre .1) _ _, refl)
 
   sweep-is-empty-requires : sweep-lts.Need-is-empty-requires (sweep-calls t) (sweep-at t) sweep.Post Inv-loop μ-loop
   sweep-is-empty-requires c κs = tt
 
   sweep-lowest-requires : sweep-lts.Need-lowest-requires (sweep-calls t) (sweep-at t) sweep.Post Inv-loop μ-loop
-  sweep-lowest-requires c κs = walk-goes-on (c .before .is-empty .result) (mask (c .before .before .loop .left)) (c .before .is-empty .ensures) (c .if1 .taken)
+  sweep-lowest-requires c κs = walk-goes-on _ _ (c .before .is-empty .ensures) (c .if1 .taken)
 
   sweep-get-requires : sweep-lts.Need-get-requires (sweep-calls t) (sweep-at t) sweep.Post Inv-loop μ-loop
-  sweep-get-requires c κs = sweep-vertex _ _ _ _ _ _ _ _ ((c .before .before .before .loop .inv .0) .sweeping) _ (c .lowest .ensures .member)
+  sweep-get-requires c κs = vertex c
 
   sweep-with-requires : sweep-lts.Need-with-requires (sweep-calls t) (sweep-at t) sweep.Post Inv-loop μ-loop
-  sweep-with-requires c κs = omega (arith, sweep-vertex _ _ _ _ _ _ _ _ ((c .before .before .before .before .loop .inv .0) .sweeping) _ (c .before .lowest .ensures .member), (c .before .before .before .before .before .before .before .pre .1) .most)
+  sweep-with-requires c κs =
+      let turn = c .before .before .before .before in
+      omega (arith, vertex (c .before), entry turn .pre .1 .taking .most)
 
   sweep-meet-requires : sweep-lts.Need-meet-requires (sweep-calls t) (sweep-at t) sweep.Post Inv-loop μ-loop
   sweep-meet-requires c κs = tt
@@ -137,45 +177,85 @@ module _ (t : ℕ) where
   sweep-rest-requires c κs = c .before .before .before .before .lowest .ensures
 
   sweep-with-requires-2 : sweep-lts.Need-with-requires-2 (sweep-calls t) (sweep-at t) sweep.Post Inv-loop μ-loop
-  sweep-with-requires-2 c κs = omega (arith, sweep-vertex _ _ _ _ _ _ _ _ ((c .before .before .before .before .before .before .before .before .loop .inv .0) .sweeping) _ (c .before .before .before .before .before .lowest .ensures .member), (c .before .before .before .before .before .before .before .before .before .before .before .pre .1) .most)
+  sweep-with-requires-2 c κs =
+      let lowest = c .before .before .before .before .before in
+      omega (arith, vertex lowest, entry (lowest .before .before .before) .pre .1 .taking .most)
 
   sweep-take-requires : sweep-lts.Need-take-requires (sweep-calls t) (sweep-at t) sweep.Post Inv-loop μ-loop
   sweep-take-requires c κs =
-      (omega (arith, swept-falls _ _ _ _ _ _ _ _ _ _ _ _ _ (c .before .before .before .before .before .before .before .before .before .before .loop .inv .0) _ (c .before .before .before .before .before .before .before .lowest .ensures .member) _ _ _ (c .before .before .before .before .meet .ensures ∙ ap (bitAnd (mask (c .before .before .before .before .before .before .before .before .before .before .loop .waiting))) (c .before .before .before .before .before .before .get .ensures)) (c .before .with2 .ensures) (c .before .before .rest .ensures), c .before .before .before .before .before .before .before .before .before .before .before .before .before .pre .0), swept-taking _ _ _ _ _ _ _ _ _ _ _ _ _ (c .before .before .before .before .before .before .before .before .before .before .loop .inv .0) _ (c .before .before .before .before .before .before .before .lowest .ensures .member) _ _ _ (c .before .before .before .before .meet .ensures ∙ ap (bitAnd (mask (c .before .before .before .before .before .before .before .before .before .before .loop .waiting))) (c .before .before .before .before .before .before .get .ensures)) (c .before .with2 .ensures) (c .before .before .rest .ensures) _ _ _ refl (c .before .before .before .before .before .with .ensures) (c .before .before .before .meet2 .ensures ∙ ap (bitAnd (mask (c .before .before .before .before .before .before .before .before .before .before .before .before .before .args .m))) (c .before .before .before .before .before .before .get .ensures)))
+      let held = turn (c .before) .loop .inv .0 in
+      (omega (arith, swept-falls held (moved (c .before)), entry (turn (c .before)) .pre .0), step-taking (held .sweeping) (moved (c .before)))
 
   sweep-loop-less : sweep-lts.Need-loop-less (sweep-calls t) (sweep-at t) sweep.Post Inv-loop μ-loop
-  sweep-loop-less c = walk-falls _ _ _ (c .before .before .before .before .before .before .before .before .before .before .lowest .ensures) (c .before .before .before .before .before .rest .ensures)
+  sweep-loop-less c =
+      let at = c .before .before .before .before in
+      walk-falls _ _ _ (joined at .before .before .lowest .ensures) (at .before .rest .ensures)
 
   sweep-loop-again : sweep-lts.Need-loop-again (sweep-calls t) (sweep-at t) sweep.Post Inv-loop μ-loop
   sweep-loop-again c =
-      (swept-more _ _ _ _ _ _ _ _ _ _ _ _ _ (c .before .before .before .before .before .before .before .before .before .before .before .before .before .loop .inv .0) _ (c .before .before .before .before .before .before .before .before .before .before .lowest .ensures .member) _ _ _ (c .before .before .before .before .before .before .before .meet .ensures ∙ ap (bitAnd (mask (c .before .before .before .before .before .before .before .before .before .before .before .before .before .loop .waiting))) (c .before .before .before .before .before .before .before .before .before .get .ensures)) (c .before .before .before .before .with2 .ensures) (c .before .before .before .before .before .rest .ensures) _ (c .before .before .before .before .before .before .before .before .with .ensures) _ _ (c .before .before .take .ensures), c .before .before .take .kept .1 .1 .1 .1 .1 .1 .0 ∙ c .before .before .before .before .before .before .before .before .before .before .before .before .before .loop .inv .1)
+      let added = c .before .before in
+      let at = added .before .before in
+      (swept-more (turn at .loop .inv .0) (moved at) (added .take .ensures), added .take .kept .1 .1 .1 .1 .1 .1 .0 ∙ turn at .loop .inv .1)
 
   sweep-same-length : sweep-lts.Need-same-length (sweep-calls t) (sweep-at t) sweep.Post Inv-loop μ-loop
   sweep-same-length c = c .before .before .loop .inv .1
 
   sweep-returns : sweep-lts.Need-returns (sweep-calls t) (sweep-at t) sweep.Post Inv-loop μ-loop
-  sweep-returns c = swept-all _ _ _ _ _ _ _ _ _ _ _ _ _ (c .before .before .loop .inv .0) (walk-over _ _ (c .before .is-empty .ensures) (c .if1 .left))
+  sweep-returns c = swept-all (c .before .before .loop .inv .0) (walk-over _ _ (c .before .is-empty .ensures) (c .if1 .left))
+
+-- ---- take
+
+module _ (t : ℕ) where
+  -- the tests whether there is a candidate, one beside the first, and one beside these two; the entry
+  abbrev tested2 : take-lts.After-is-empty3 (take-calls t) (take-at t) take.Post → take-lts.After-is-empty2 (take-calls t) (take-at t) take.Post
+  tested2 c = c .before .before .before .before
+
+  abbrev tested : take-lts.After-is-empty2 (take-calls t) (take-at t) take.Post → take-lts.After-is-empty (take-calls t) (take-at t) take.Post
+  tested c = c .before .before .before .before .before .before
+
+  abbrev start : take-lts.After-is-empty (take-calls t) (take-at t) take.Post → take-lts.Start (take-calls t) (take-at t) take.Post
+  start c = c .before .before .before
+
+  -- the candidates are the lowest, u, alone; or u and v
+  one : (c : take-lts.Then3 (take-calls t) (take-at t) take.Post)
+      → mask (start (tested (c .before)) .args .c) ≡ 2 ^ (c .before .before .before .lowest .result)
+  one c =
+      let first = c .before .before in
+      one-left (first .before .lowest .ensures) (first .rest .ensures) (empty-holds (c .before .is-empty2 .ensures) (c .if3 .taken))
+
+  two : (c : take-lts.Then4 (take-calls t) (take-at t) take.Post)
+      → let u = tested2 (c .before) .before .before .lowest .result in let v = c .before .before .before .lowest2 .result in
+      (mask (start (tested (tested2 (c .before))) .args .c) ≡ with (2 ^ u) v) × (u ≢ v)
+  two c =
+      let first = tested2 (c .before) .before in
+      let second = c .before .before in
+      two-left (first .before .lowest .ensures) (first .rest .ensures) (second .before .lowest2 .ensures) (second .rest2 .ensures)
+      (empty-holds (c .before .is-empty3 .ensures) (c .if4 .taken))
 
   take-is-empty-requires : take-lts.Need-is-empty-requires (take-calls t) (take-at t) take.Post
   take-is-empty-requires c κs = tt
 
   take-end-requires : take-lts.Need-end-requires (take-calls t) (take-at t) take.Post
-  take-end-requires c κs = taking-at _ _ _ _ _ _ _ _ (eqb-true _ _ (sym (c .before .before .is-empty .ensures) ∙ c .before .if1 .taken)) (c .before .before .before .before .before .pre .1)
+  take-end-requires c κs =
+      let none = c .before in
+      take-same (start (none .before) .pre .1) (empty-holds (none .before .is-empty .ensures) (none .if1 .taken))
 
   take-same-length : take-lts.Need-same-length (take-calls t) (take-at t) take.Post
   take-same-length c = search needs
 
   take-returns : take-lts.Need-returns (take-calls t) (take-at t) take.Post
-  take-returns c = adds-at _ _ _ _ _ _ _ _ _ (eqb-true _ _ (sym (c .before .before .before .before .before .is-empty .ensures) ∙ c .before .before .before .before .if1 .taken)) (c .before .before .end .ensures)
+  take-returns c =
+      let none = c .before .before .before .before in
+      take-adds (start (none .before) .pre .1) (empty-holds (none .before .is-empty .ensures) (none .if1 .taken)) (c .before .before .end .ensures)
 
   take-is-few-requires : take-lts.Need-is-few-requires (take-calls t) (take-at t) take.Post
-  take-is-few-requires c κs = take-fits _ _ _ _ _ _ _ (c .before .before .before .before .pre .1)
+  take-is-few-requires c κs = take-fits (start (c .before) .pre .1)
 
   take-returns-2 : take-lts.Need-returns-2 (take-calls t) (take-at t) take.Post
-  take-returns-2 c = few-adds _ _ _ _ _ _ _ (c .before .before .before .before .before .before .pre .1) (c .before .is-few .ensures (c .if2 .taken)) _
+  take-returns-2 c = few-adds (start (c .before .before .before) .pre .1) (c .before .is-few .ensures (c .if2 .taken)) _ _
 
   take-lowest-requires : take-lts.Need-lowest-requires (take-calls t) (take-at t) take.Post
-  take-lowest-requires c κs = positive-of _ (eqb-false _ _ (sym (c .before .before .before .is-empty .ensures) ∙ c .before .before .if1 .left))
+  take-lowest-requires c κs = let some = c .before .before in empty-fails (some .before .is-empty .ensures) (some .if1 .left)
 
   take-rest-requires : take-lts.Need-rest-requires (take-calls t) (take-at t) take.Post
   take-rest-requires c κs = c .lowest .ensures
@@ -184,16 +264,18 @@ module _ (t : ℕ) where
   take-is-empty-requires-2 c κs = tt
 
   take-end-with-requires : take-lts.Need-end-with-requires (take-calls t) (take-at t) take.Post
-  take-end-with-requires c κs = taking-at _ _ _ _ _ _ _ _ (one-left _ _ _ (c .before .before .before .before .lowest .ensures .member) (c .before .before .before .rest .ensures) (eqb-true _ _ (sym (c .before .before .is-empty2 .ensures) ∙ c .before .if3 .taken))) (c .before .before .before .before .before .before .before .before .before .before .before .pre .1)
+  take-end-with-requires c κs = take-same (start (tested (c .before .before)) .pre .1) (one (c .before))
 
   take-same-length-2 : take-lts.Need-same-length-2 (take-calls t) (take-at t) take.Post
   take-same-length-2 c = search needs
 
   take-returns-3 : take-lts.Need-returns-3 (take-calls t) (take-at t) take.Post
-  take-returns-3 c = adds-at _ _ _ _ _ _ _ _ _ (one-left _ _ _ (c .before .before .before .before .before .before .before .lowest .ensures .member) (c .before .before .before .before .before .before .rest .ensures) (eqb-true _ _ (sym (c .before .before .before .before .before .is-empty2 .ensures) ∙ c .before .before .before .before .if3 .taken))) (c .before .before .end-with .ensures)
+  take-returns-3 c =
+      let last = c .before .before .before .before in
+      take-adds (start (tested (last .before)) .pre .1) (one last) (c .before .before .end-with .ensures)
 
   take-lowest-requires-2 : take-lts.Need-lowest-requires-2 (take-calls t) (take-at t) take.Post
-  take-lowest-requires-2 c κs = positive-of _ (eqb-false _ _ (sym (c .before .is-empty2 .ensures) ∙ c .if3 .left))
+  take-lowest-requires-2 c κs = empty-fails (c .before .is-empty2 .ensures) (c .if3 .left)
 
   take-rest-requires-2 : take-lts.Need-rest-requires-2 (take-calls t) (take-at t) take.Post
   take-rest-requires-2 c κs = c .lowest2 .ensures
@@ -202,77 +284,57 @@ module _ (t : ℕ) where
   take-is-empty-requires-3 c κs = tt
 
   take-end-pair-requires : take-lts.Need-end-pair-requires (take-calls t) (take-at t) take.Post
-  take-end-pair-requires c κs = (
-      let two = two-left _ _ _ _ _ (c .before .before .before .before .before .before .before .before .lowest .ensures .member) (c .before .before .before .before .before .before .before .rest .ensures) (c .before .before .before .before .lowest2 .ensures .member) (c .before .before .before .rest2 .ensures) (eqb-true _ _ (sym (c .before .before .is-empty3 .ensures) ∙ c .before .if4 .taken)) in
-      (taking-at _ _ _ _ _ _ _ _ (two .0) (c .before .before .before .before .before .before .before .before .before .before .before .before .before .before .before .pre .1), two .1))
+  take-end-pair-requires c κs = (take-same (start (tested (tested2 (c .before .before))) .pre .1) (two (c .before) .0), two (c .before) .1)
 
   take-same-length-3 : take-lts.Need-same-length-3 (take-calls t) (take-at t) take.Post
   take-same-length-3 c = search needs
 
   take-returns-4 : take-lts.Need-returns-4 (take-calls t) (take-at t) take.Post
-  take-returns-4 c = adds-at _ _ _ _ _ _ _ _ _ (two-left _ _ _ _ _ (c .before .before .before .before .before .before .before .before .before .before .before .lowest .ensures .member) (c .before .before .before .before .before .before .before .before .before .before .rest .ensures) (c .before .before .before .before .before .before .before .lowest2 .ensures .member) (c .before .before .before .before .before .before .rest2 .ensures) (eqb-true _ _ (sym (c .before .before .before .before .before .is-empty3 .ensures) ∙ c .before .before .before .before .if4 .taken)) .0) (c .before .before .end-pair .ensures)
+  take-returns-4 c =
+      let last = c .before .before .before .before in
+      take-adds (start (tested (tested2 (last .before))) .pre .1) (two last .0) (c .before .before .end-pair .ensures)
 
   take-is-far-requires : take-lts.Need-is-far-requires (take-calls t) (take-at t) take.Post
   take-is-far-requires c κs = tt
 
+  -- more than two are left
+  abbrev many : take-lts.After-is-far (take-calls t) (take-at t) take.Post → take-lts.After-is-empty (take-calls t) (take-at t) take.Post
+  many c = tested (tested2 (c .before .before))
+
   take-agenda-requires : take-lts.Need-agenda-requires (take-calls t) (take-at t) take.Post
-  take-agenda-requires c κs = taking-pickable _ _ _ _ _ _ _ (c .before .before .before .before .before .before .before .before .before .before .before .before .before .before .before .pre .1) _ (c .before .before .before .before .before .before .before .before .lowest .ensures .member)
+  take-agenda-requires c κs =
+      let some = tested2 (c .before .before) .before .before .before .before .before in
+      take-pickable (start (many c) .pre .1) (empty-fails (some .before .is-empty .ensures) (some .if1 .left))
 
   take-minus-requires : take-lts.Need-minus-requires (take-calls t) (take-at t) take.Post
   take-minus-requires c κs = tt
 
   take-sweep-requires : take-lts.Need-sweep-requires (take-calls t) (take-at t) take.Post
-  take-sweep-requires c κs = (
-    omega (arith, next-candidates _ _ _ _ _ _ _ (c .before .before .before .before .before .before .before .before .before .before .before .before .before .before .before .before .before .before .pre .1) _ _ (c .before .minus .ensures) (c .before .before .agenda .ensures), c .before .before .before .before .before .before .before .before .before .before .before .before .before .before .before .before .before .before .pre .0),
-    next-sweeping _ _ _ _ _ _ _ (c .before .before .before .before .before .before .before .before .before .before .before .before .before .before .before .before .before .before .pre .1) _ _ (c .before .minus .ensures) (c .before .before .agenda .ensures),
-  )
+  take-sweep-requires c κs =
+      let at = c .before in
+      let at-start = start (many (at .before .before)) in (
+        omega (arith, cover-candidates (at-start .pre .1) (at .before .agenda .ensures) (at .minus .ensures), at-start .pre .0),
+        cover-sweeping (at-start .pre .1) (at .before .agenda .ensures) (at .minus .ensures),
+      )
 
   take-same-length-4 : take-lts.Need-same-length-4 (take-calls t) (take-at t) take.Post
   take-same-length-4 c = search needs
 
   take-returns-5 : take-lts.Need-returns-5 (take-calls t) (take-at t) take.Post
-  take-returns-5 c = next-adds _ _ _ _ _ _ _ (c .before .before .before .before .before .before .before .before .before .before .before .before .before .before .before .before .before .before .before .before .before .pre .1) _ _ (c .before .before .before .before .minus .ensures) (c .before .before .before .before .before .agenda .ensures) _ _ _ (c .before .before .sweep .ensures)
+  take-returns-5 c =
+      let at = c .before .before .before .before in
+      cover-adds (start (many (at .before .before)) .pre .1) (at .before .agenda .ensures) (at .minus .ensures) (c .before .before .sweep .ensures)
 
 pub +sweep+take-spec : {M : Type 1} → statement M
 +sweep+take-spec =
-    close μ-sweep μ-take (λ t. sweep-lts.spec (sweep-calls t) (sweep-at t) sweep.Post Inv-loop μ-loop
-    (sweep-add-more t)
-    (sweep-loop-holds t)
-    (sweep-is-empty-requires t)
-    (sweep-lowest-requires t)
-    (sweep-get-requires t)
-    (sweep-with-requires t)
-    (sweep-meet-requires t)
-    (sweep-meet-requires-2 t)
-    (sweep-rest-requires t)
-    (sweep-with-requires-2 t)
-    (sweep-take-requires t)
-    (sweep-loop-less t)
-    (sweep-loop-again t)
-    (sweep-same-length t)
-    (sweep-returns t))
+    close μ-sweep μ-take
+    (λ t. sweep-lts.spec (sweep-calls t) (sweep-at t) sweep.Post Inv-loop μ-loop
+    (sweep-add-more t) (sweep-loop-holds t) (sweep-is-empty-requires t) (sweep-lowest-requires t) (sweep-get-requires t) (sweep-with-requires t)
+    (sweep-meet-requires t) (sweep-meet-requires-2 t) (sweep-rest-requires t) (sweep-with-requires-2 t) (sweep-take-requires t) (sweep-loop-less t)
+    (sweep-loop-again t) (sweep-same-length t) (sweep-returns t))
     (λ t. take-lts.spec (take-calls t) (take-at t) take.Post
-    (take-is-empty-requires t)
-    (take-end-requires t)
-    (take-same-length t)
-    (take-returns t)
-    (take-is-few-requires t)
-    (take-returns-2 t)
-    (take-lowest-requires t)
-    (take-rest-requires t)
-    (take-is-empty-requires-2 t)
-    (take-end-with-requires t)
-    (take-same-length-2 t)
-    (take-returns-3 t)
-    (take-lowest-requires-2 t)
-    (take-rest-requires-2 t)
-    (take-is-empty-requires-3 t)
-    (take-end-pair-requires t)
-    (take-same-length-3 t)
-    (take-returns-4 t)
-    (take-is-far-requires t)
-    (take-agenda-requires t)
-    (take-minus-requires t)
-    (take-sweep-requires t)
-    (take-same-length-4 t)
+    (take-is-empty-requires t) (take-end-requires t) (take-same-length t) (take-returns t) (take-is-few-requires t) (take-returns-2 t)
+    (take-lowest-requires t) (take-rest-requires t) (take-is-empty-requires-2 t) (take-end-with-requires t) (take-same-length-2 t) (take-returns-3 t)
+    (take-lowest-requires-2 t) (take-rest-requires-2 t) (take-is-empty-requires-3 t) (take-end-pair-requires t) (take-same-length-3 t)
+    (take-returns-4 t) (take-is-far-requires t) (take-agenda-requires t) (take-minus-requires t) (take-sweep-requires t) (take-same-length-4 t)
     (take-returns-5 t))

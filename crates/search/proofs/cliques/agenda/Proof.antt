@@ -1,4 +1,4 @@
--- `search::cliques::agenda` meets its contract: both ways give the candidates of a pivot.
+-- Both ways give the candidates of a pivot.
 use borrow.Author.Needs.{needs}
 use Rattle.search.proofs.cliques.agenda.Statement.{statement}
 use Rattle.search.proofs.cliques.agenda.Tie as tie

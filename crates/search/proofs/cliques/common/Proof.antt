@@ -1,11 +1,12 @@
--- The vertices shared by the members passed hold all that the members of s share, and lie in the row of each member passed: when none is left they are the common neighbours.
+-- The vertices shared by the members passed hold all that the members of s share, and lie in the row of each member passed: when none is left they are
+-- the common neighbours.
 use native.Mathlib.Omega.{arith}
 use mathlib.Core.Path.{ap, _∙_}
 use borrow.Author.Needs.{needs}
 use Rattle.sets.specs.Set.{full}
 use Rattle.sets.specs.Words.{mask, masks}
-use Rattle.sets.specs.WalkLaws.{walk-falls, walk-goes-on, walk-over, walk-member, walk-below}
-use Rattle.search.specs.Cliques.{Sharing, sharing-none, sharing-next, sharing-all}
+use Rattle.sets.specs.WalkLaws.{walk-falls, walk-goes-on, walk-over, walk-below}
+use Rattle.search.specs.CliqueLaws.{Sharing, sharing-none, sharing-next, sharing-all}
 use Rattle.search.proofs.cliques.common.Statement.{statement}
 use Rattle.search.proofs.cliques.common.Tie as tie
 
@@ -15,14 +16,18 @@ Inv-loop rows shared₀ left₀ shared left = Sharing (masks rows) (mask left₀
 abbrev μ-loop : tie.MeasureT-loop
 μ-loop rows shared₀ left₀ shared left = mask left
 
+-- the turn of the loop that a vertex was taken in
+abbrev turn : tie.After-rest Inv-loop μ-loop → tie.At-loop Inv-loop μ-loop
+turn c = c .before .before .before .before
+
 count-requires : tie.Need-count-requires Inv-loop μ-loop
 count-requires c κs = search needs
 
 full-requires : tie.Need-full-requires Inv-loop μ-loop
-full-requires c κs = (omega (arith, c .count .ensures, c .before .before .pre .some), omega (arith, c .count .ensures, c .before .before .pre .most))
+full-requires c κs = let held = c .before .before .pre in (omega (arith, c .count .ensures, held .some), omega (arith, c .count .ensures, held .most))
 
 loop-holds : tie.Need-loop-holds Inv-loop μ-loop
-loop-holds c = sharing-none _ _ _ (c .full .ensures ∙ ap full (c .before .count .ensures))
+loop-holds c = sharing-none (c .full .ensures ∙ ap full (c .before .count .ensures))
 
 is-empty-requires : tie.Need-is-empty-requires Inv-loop μ-loop
 is-empty-requires c κs = search needs
@@ -34,39 +39,24 @@ rest-requires : tie.Need-rest-requires Inv-loop μ-loop
 rest-requires c κs = search needs
 
 get-requires : tie.Need-get-requires Inv-loop μ-loop
-get-requires c κs =
-    walk-below _ _ _ _ (c .before .before .before .before .before .before .before .before .pre .below) (c .before .before .before .before .loop .inv .beside .part)
-    (c .before .lowest .ensures)
+get-requires c κs = walk-below _ _ _ _ (turn c .before .before .before .before .pre .below) (turn c .loop .inv .beside .part) (c .before .lowest .ensures)
 
 meet-requires : tie.Need-meet-requires Inv-loop μ-loop
 meet-requires c κs = search needs
 
 loop-less : tie.Need-loop-less Inv-loop μ-loop
-loop-less c = walk-falls _ _ _ (c .before .before .before .lowest .ensures) (c .before .before .rest .ensures)
+loop-less c = let passed = c .before .before in walk-falls _ _ _ (passed .before .lowest .ensures) (passed .rest .ensures)
 
 loop-again : tie.Need-loop-again Inv-loop μ-loop
 loop-again c =
-    let at = c .before .before .before in
-    let held = at .before .before .before .loop .inv in
-    sharing-next _ _ _ _ _ _ _ _ (walk-member _ _ _ (held .beside .part) (at .lowest .ensures)) (c .before .before .rest .ensures) (c .before .get .ensures) (c .meet .ensures) held
+    let passed = c .before .before in
+    sharing-next (turn passed .loop .inv) (passed .before .lowest .ensures) (passed .rest .ensures) (c .before .get .ensures) (c .meet .ensures)
 
 returns : tie.Need-returns Inv-loop μ-loop
-returns c = sharing-all _ _ _ _ (walk-over _ _ (c .before .is-empty .ensures) (c .if1 .left)) (c .before .before .loop .inv)
+returns c = sharing-all (c .before .before .loop .inv) (walk-over _ _ (c .before .is-empty .ensures) (c .if1 .left))
 
 pub common-spec : {M : Type 1} → statement M
 common-spec =
     tie.close
-    (tie.spec
-    Inv-loop
-    μ-loop
-    count-requires
-    full-requires
-    loop-holds
-    is-empty-requires
-    lowest-requires
-    rest-requires
-    get-requires
-    meet-requires
-    loop-less
-    loop-again
-    returns)
+    (tie.spec Inv-loop μ-loop count-requires full-requires loop-holds is-empty-requires lowest-requires rest-requires get-requires meet-requires
+    loop-less loop-again returns)

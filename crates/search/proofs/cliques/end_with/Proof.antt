@@ -1,34 +1,40 @@
--- `search::cliques::end_with` meets its contract: what one vertex adds is what the clique with it adds.
-use mathlib.Core.Path.{refl, ap, _∙_}
+-- Every clique to be found has the only candidate v, else v could be added to it: so v joins the clique, and no candidate is left.
 use native.Mathlib.Omega.{arith}
 use borrow.Author.Needs.{needs}
-use lib.Bits.{bitAnd}
-use Rattle.sets.specs.Words.{mask}
-use Rattle.search.specs.Cliques.{take-fits}
-use Rattle.search.specs.CliqueEnds.{one-vertex, one-taking, one-adds}
+use Rattle.search.specs.SweepLaws.{joined}
+use Rattle.search.specs.TakeLaws.{take-fits}
+use Rattle.search.specs.EndLaws.{one-vertex, one-taking, one-adds}
 use Rattle.search.proofs.cliques.end_with.Statement.{statement}
 use Rattle.search.proofs.cliques.end_with.Tie as tie
 
+-- the entry, from where v has joined
+abbrev start : tie.After-with → tie.Start
+start c = c .before .before .before .before .before
+
 get-requires : tie.Need-get-requires
-get-requires c κs = one-vertex _ _ _ _ _ _ _ (c .before .before .pre)
+get-requires c κs = one-vertex _ (c .before .before .pre)
 
 meet-requires : tie.Need-meet-requires
 meet-requires c κs = tt
 
 add-end : tie.Need-add-end
-add-end c = omega (arith, take-fits _ _ _ _ _ _ _ (c .before .before .before .before .pre))
+add-end c = omega (arith, take-fits (c .before .before .before .before .pre))
 
 with-requires : tie.Need-with-requires
-with-requires c κs = omega (arith, one-vertex _ _ _ _ _ _ _ (c .before .before .before .before .pre), (c .before .before .before .before .pre) .most)
+with-requires c κs = let held = c .before .before .before .before .pre in omega (arith, one-vertex _ held, held .most)
 
 end-requires : tie.Need-end-requires
-end-requires c κs = one-taking _ _ _ _ _ _ _ (c .before .before .before .before .before .before .pre) _ _ _ refl (c .before .with .ensures) (c .before .before .meet .ensures ∙ ap (bitAnd (mask (c .before .before .before .before .before .before .args .m))) (c .before .before .before .get .ensures))
+end-requires c κs =
+    let at = c .before in
+    one-taking (start at .pre) (joined (at .with .ensures) (at .before .before .get .ensures) (at .before .meet .ensures))
 
 same-length : tie.Need-same-length
 same-length c = search needs
 
 returns : tie.Need-returns
-returns c = one-adds _ _ _ _ _ _ _ (c .before .before .before .before .before .before .before .before .before .pre) _ (c .before .before .before .before .with .ensures) _ _ _ (c .before .before .end .ensures)
+returns c =
+    let at = c .before .before .before .before in
+    one-adds (start at .pre) (joined (at .with .ensures) (at .before .before .get .ensures) (at .before .meet .ensures)) (c .before .before .end .ensures)
 
 pub end-with-spec : {M : Type 1} → statement M
 end-with-spec = tie.close (tie.spec get-requires meet-requires add-end with-requires end-requires same-length returns)

@@ -1,4 +1,4 @@
--- `search::cliques::is_far` meets its contract: what is lacking is compared, so that no sum can overflow.
+-- What is lacking, q less `have`, is compared with 8: no sum can overflow.
 use Prim.Native.Nat.{ℕ, _+_, _-_, _<_}
 use mathlib.Core.Path.{_≡_, sym, _∙_}
 use native.Mathlib.Omega.{arith}

@@ -1,4 +1,4 @@
--- `search::cliques::is_few` meets its contract: where the clique alone is large enough the candidates are not counted.
+-- Where the clique alone has q members it is answered that they are not too few; else they and the candidates are counted.
 use mathlib.Core.Bool.{false≢true}
 use Prim.Native.Nat.{_+_}
 use native.Mathlib.Omega.{arith}

@@ -1,4 +1,4 @@
--- `search::cliques::place_clique` meets its contract: too small a clique adds nothing, any other itself.
+-- Too small a clique adds nothing, any other itself.
 use Prim.Native.Nat.{_^_}
 use borrow.Author.Tests.{lt-ltb, le-ltb}
 use Rattle.search.specs.Ready.{unless-none, unless-one}
@@ -16,7 +16,10 @@ same-length : tie.Need-same-length
 same-length c = search needs
 
 returns-2 : tie.Need-returns-2
-returns-2 c = unless-one _ _ _ _ _ _ _ (le-ltb _ _ (c .before .before .before .before .if1 .left)) (c .before .before .push .ensures (2 ^ (c .before .before .before .before .before .before .args .n)) (c .before .before .before .before .before .before .pre))
+returns-2 c =
+    let large = c .before .before .before .before in
+    let start = large .before .before in
+    unless-one _ _ _ _ _ _ _ (le-ltb _ _ (large .if1 .left)) (c .before .before .push .ensures (2 ^ start .args .n) (start .pre))
 
 pub place-clique-spec : {M : Type 1} → statement M
 place-clique-spec = tie.close (tie.spec returns push-requires same-length returns-2)

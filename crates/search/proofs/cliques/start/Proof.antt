@@ -1,58 +1,53 @@
 -- With no candidate the clique is at its end; else a sweep over the candidates of a pivot adds what is to be found.
-use mathlib.Core.Path.{sym, _∙_}
 use borrow.Author.Needs.{needs}
-use borrow.Author.Tests.{eqb-true, eqb-false}
-use Rattle.sets.specs.SubsetLaws.{positive-of}
-use Rattle.sets.specs.SizeLaws.{positive-size, some-member}
-use Rattle.search.specs.Cliques.{next-sweeping, next-adds}
-use Rattle.search.specs.CliqueEnds.{taking-at, adds-at, taking-pickable}
+use Rattle.search.specs.CliqueLaws.{empty-holds, empty-fails}
+use Rattle.search.specs.TakeLaws.{take-same, take-adds, take-pickable, cover-sweeping, cover-adds}
 use Rattle.search.proofs.cliques.start.Statement.{statement}
 use Rattle.search.proofs.cliques.start.Tie as tie
+
+-- the entry, from the test of c; and that test, from where the candidates are parted
+abbrev start : tie.After-is-empty → tie.Start
+start c = c .before .before .before
+
+abbrev tested : tie.After-minus → tie.After-is-empty
+tested c = c .before .before .before
 
 is-empty-requires : tie.Need-is-empty-requires
 is-empty-requires c κs = search needs
 
 end-requires : tie.Need-end-requires
-end-requires c κs = taking-at _ _ _ _ _ _ _ _ (eqb-true _ _ (sym (c .before .before .is-empty .ensures) ∙ c .before .if1 .taken)) (c .before .before .before .before .before .pre)
+end-requires c κs =
+    let none = c .before in
+    take-same (start (none .before) .pre) (empty-holds (none .before .is-empty .ensures) (none .if1 .taken))
 
 same-length : tie.Need-same-length
 same-length c = search needs
 
 returns : tie.Need-returns
 returns c =
-    adds-at _ _ _ _ _ _ _ _ _ (eqb-true _ _ (sym (c .before .before .before .before .before .is-empty .ensures) ∙ c .before .before .before .before .if1 .taken))
-    (c .before .before .end .ensures)
+    let none = c .before .before .before .before in
+    take-adds (start (none .before) .pre) (empty-holds (none .before .is-empty .ensures) (none .if1 .taken)) (c .before .before .end .ensures)
 
 agenda-requires : tie.Need-agenda-requires
-agenda-requires c κs =
-    let u = some-member _ (positive-size _ (positive-of _ (eqb-false _ _ (sym (c .before .is-empty .ensures) ∙ c .if1 .left)))) in
-    taking-pickable _ _ _ _ _ _ _ (c .before .before .before .before .pre) (u .0) (u .1)
+agenda-requires c κs = take-pickable (start (c .before) .pre) (empty-fails (c .before .is-empty .ensures) (c .if1 .left))
 
 minus-requires : tie.Need-minus-requires
 minus-requires c κs = search needs
 
 sweep-requires : tie.Need-sweep-requires
 sweep-requires c κs =
-    next-sweeping _ _ _ _ _ _ _ (c .before .before .before .before .before .before .before .pre) _ _ (c .before .minus .ensures) (c .before .before .agenda .ensures)
+    let at = c .before in
+    cover-sweeping (start (tested at) .pre) (at .before .agenda .ensures) (at .minus .ensures)
 
 same-length-2 : tie.Need-same-length-2
 same-length-2 c = search needs
 
 returns-2 : tie.Need-returns-2
 returns-2 c =
-    next-adds _ _ _ _ _ _ _ (c .before .before .before .before .before .before .before .before .before .before .pre) _ _ (c .before .before .before .before .minus .ensures)
-    (c .before .before .before .before .before .agenda .ensures) _ _ _ (c .before .before .sweep .ensures)
+    let at = c .before .before .before .before in
+    cover-adds (start (tested at) .pre) (at .before .agenda .ensures) (at .minus .ensures) (c .before .before .sweep .ensures)
 
 pub start-spec : {M : Type 1} → statement M
 start-spec =
     tie.close
-    (tie.spec
-    is-empty-requires
-    end-requires
-    same-length
-    returns
-    agenda-requires
-    minus-requires
-    sweep-requires
-    same-length-2
-    returns-2)
+    (tie.spec is-empty-requires end-requires same-length returns agenda-requires minus-requires sweep-requires same-length-2 returns-2)
