@@ -10,9 +10,12 @@ pub mod NearRows
 pub mod NearLaws
 pub mod SiftLaws
 pub mod Ready
+pub mod ReadyLaws
 pub mod Calls
 pub mod Cliques
 pub mod CliqueEnds
-pub mod TopLaws
+pub mod Start
+pub mod StartLaws
+pub mod CallLaws
 pub mod OutcomeLaws
 pub mod Edges

@@ -19,7 +19,7 @@ use Rattle.lists.specs.Listing.{listing, Listed}
 use Rattle.sets.specs.KeepLaws.{Rising}
 use Rattle.lists.specs.ListingLaws.{listing-rising, listing-sound, listing-complete, floor-above}
 use Rattle.search.specs.Calls.{slotsCause, listReply, slotsAfter}
-use Rattle.search.specs.TopLaws.{reply-fits, reply-short, slots-fit, slots-short}
+use Rattle.search.specs.CallLaws.{reply-fits, reply-short, slots-fits, slots-short}
 
 -- ---- a refusal whose number is none of a check's
 
@@ -66,7 +66,7 @@ module _ (g : List ℕ) (ask : Request) where
     pub slots-list : slotsAfter g ask slots ≡ listing g ask ++ drop m slots
     slots-list =
         let n = list-count (length slots) e in
-        sym (slots-fit g ask (list-accepted (length slots) e) slots (omega (arith, n, list-room (length slots) e)))
+        (slots-fits g ask (list-accepted (length slots) e) slots (omega (arith, n, list-room (length slots) e)))
         ∙ ap (λ (x : ℕ). listing g ask ++ drop x slots) (sym n)
 
     pub slots-first : take m (slotsAfter g ask slots) ≡ listing g ask
@@ -115,7 +115,7 @@ module _ (g : List ℕ) (ask : Request) where
     short-room = short .1
 
     pub short-slots : slotsAfter g ask slots ≡ replicate (length slots) 0
-    short-slots = sym (slots-short g ask short-accepted slots (omega (arith, short)))
+    short-slots = (slots-short g ask short-accepted slots (omega (arith, short)))
 
   -- ---- m is 0: any number of slots is accepted, none included, and they are left
 
@@ -127,7 +127,7 @@ module _ (g : List ℕ) (ask : Request) where
     none-reply room = reply-fits g ask e room (omega (arith, zero)) ∙ ap (λ (n : ℕ). answered n tt) zero
 
     pub none-slots : (slots : List ℕ) → slotsAfter g ask slots ≡ slots
-    none-slots slots = sym (slots-fit g ask e slots (omega (arith, zero))) ∙ ap (λ (l : List ℕ). l ++ drop (length l) slots) none
+    none-slots slots = (slots-fits g ask e slots (omega (arith, zero))) ∙ ap (λ (l : List ℕ). l ++ drop (length l) slots) none
 
   module _ (room : ℕ) (e : listReply g ask room ≡ answered 0 tt) where
     pub zero-none : listing g ask ≡ []
