@@ -62,17 +62,5 @@ returns-2 c = search needs
 pub enumerate-from-spec : {M : Type 1} → statement M
 enumerate-from-spec =
     tie.close
-    (tie.spec
-    common-requires
-    size-requires
-    start-requires
-    same-length
-    returns
-    mul-fill
-    slice-aggregate-fill
-    fill-requires
-    slice-aggregate-branch
-    sifted-requires
-    branch-requires
-    same-length-2
-    returns-2)
+    (tie.spec common-requires size-requires start-requires same-length returns mul-fill slice-aggregate-fill fill-requires
+    slice-aggregate-branch sifted-requires branch-requires same-length-2 returns-2)

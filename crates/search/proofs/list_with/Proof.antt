@@ -119,19 +119,5 @@ returns-3 c =
 pub list-with-spec : {M : Type 1} → statement M
 list-with-spec =
     tie.close
-    (tie.spec
-    check-request-requires
-    enum-known-checked
-    returns
-    enum-told
-    enumerate-requires
-    count-requires
-    clear-requires
-    same-length
-    returns-2
-    offset-requires
-    slice-relend-prefix-sort
-    slice-aggregate-sort
-    sort-requires
-    same-length-2
-    returns-3)
+    (tie.spec check-request-requires enum-known-checked returns enum-told enumerate-requires count-requires clear-requires same-length
+    returns-2 offset-requires slice-relend-prefix-sort slice-aggregate-sort sort-requires same-length-2 returns-3)
