@@ -1,7 +1,6 @@
 -- Laws of what a call of the search is to add: where a branch may be cut, what a leaf adds, and how the branches with and without a vertex share the rest.
-use Prim.Native.Nat.{ℕ, _^_, _≤_, _<_}
+use Prim.Native.Nat.{ℕ, _^_, _≤_, _<_, max}
 use native.Mathlib.Omega.{arith}
-use native.Mathlib.Nat.{le-refl}
 use mathlib.Core.Path.{_≡_, sym, ap, _∙_}
 use mathlib.Core.Logic.{⊎-elim}
 use mathlib.Core.Bool.{_&&_}
@@ -49,56 +48,66 @@ module _ (g : List ℕ) (ask : Request) (s c : ℕ) where
       (both (subset s x) (subset x (bitOr s c)) (sub-subset s x (h .lower)) (sub-subset x (bitOr s c) (h .upper)))
       (listed-test g ask x (h .listed))
 
-  -- ---- cuts
-
   pub cut-none : Empty g ask s c → (x : ℕ) → x < 2 ^ length g → T (found g ask s c x) → ⊥
   cut-none e x l t = e x (found-holds x l t)
 
-module _ {g : List ℕ} {ask : Request} {s c : ℕ} where
-  pub short-empty : Short g (ask .slack) (ask .floor) s (bitOr s c) → Empty g ask s c
-  short-empty h x f = omega (arith, h x (f .listed .below) (f .listed .top .0) (f .lower) (f .upper), f .listed .large)
+-- pointwise: the digits of a union that has a name
+whole-bit : (s c : ℕ) {a : ℕ} → a ≡ bitOr s c → (u : ℕ) → bit a u ≡ max (bit s u) (bit c u)
+whole-bit s c e u = ap (λ (x : ℕ). bit x u) e ∙ bit-or s c u
 
-  pub extendable-empty : Valid g → T (extendable g (ask .slack) (bitOr s c)) → Empty g ask s c
-  extendable-empty ok h x f = extendable-none g (ask .slack) (bitOr s c) x ok (f .listed .below) h (f .upper) (f .listed .top)
+-- ---- cuts, and a leaf: a is s and c together
 
-  -- a member w of s and c that misses more than k of them, no candidate itself and adjacent to every candidate
-  pub stuck-empty : (w : ℕ) → In w (bitOr s c) → bit c w ≡ 0 → ask .slack < missing g (bitOr s c) w → minus c (row g w) ≡ 0 → Empty g ask s c
+module _ {g : List ℕ} {ask : Request} {s c a : ℕ} (e : a ≡ bitOr s c) where
+  within : {x : ℕ} → Found g ask s c x → Sub x a
+  within f = rw e (f .upper)
+
+  pub short-empty : Short g (ask .slack) (ask .floor) s a → Empty g ask s c
+  short-empty h x f = omega (arith, h x (f .listed .below) (f .listed .top .0) (f .lower) (within f), f .listed .large)
+
+  pub extendable-empty : Valid g → T (extendable g (ask .slack) a) → Empty g ask s c
+  extendable-empty ok h x f = extendable-none g (ask .slack) a x ok (f .listed .below) h (within f) (f .listed .top)
+
+  -- a member w of a that misses more than k of it, no candidate itself and adjacent to every candidate
+  pub stuck-empty : (w : ℕ) → In w a → bit c w ≡ 0 → ask .slack < missing g a w → minus c (row g w) ≡ 0 → Empty g ask s c
   unfolding missing
   stuck-empty w i out many none x f =
-      let all = bitOr s c in
-      let near = row g w in
-      let held : In w x = omega (arith, bit-or s c w, f .lower w, bit-le x w) in
       let fits = f .listed .top .0 w (in-below (length g) x w (f .listed .below) held) held in
-      let inside : Sub (minus all near) (minus x near) = λ u.
-      let z : bit (minus c near) u ≡ 0 = ap (λ (y : ℕ). bit y u) none ∙ bit-none u in
-      omega (arith, bit-minus all near u, bit-minus x near u, bit-or s c u, bit-minus c near u, f .lower u, bit-le s u, bit-le c u, bit-le near u) in
-      omega (arith, many, fits, size-mono (minus all near) (minus x near) inside)
+      omega (arith, many, fits, size-mono (minus a (row g w)) (minus x (row g w)) inside)
+    where
+      held : In w x
+      held = omega (arith, whole-bit s c e w, f .lower w, bit-le x w)
+
+      inside : Sub (minus a (row g w)) (minus x (row g w))
+      inside u =
+          let near = row g w in
+          let z : bit (minus c near) u ≡ 0 = ap (λ (y : ℕ). bit y u) none ∙ bit-none u in
+          omega (arith, bit-minus a near u, bit-minus x near u, whole-bit s c e u, bit-minus c near u, f .lower u, bit-le s u, bit-le c u, bit-le near u)
+
+  -- a leaf: a is a plex
+  module _ (b : a < 2 ^ length g) (p : Plex g (ask .slack) a) where
+    pub leaf-found : Valid g → (T (extendable g (ask .slack) a) → ⊥) → ask .floor ≤ size a → Found g ask s c a
+    leaf-found ok n l =
+        record {
+          lower = λ u. omega (arith, whole-bit s c e u);
+          upper = λ u. omega (arith, ap (λ (x : ℕ). bit x u) e);
+          listed = record { below = b; large = l; top = unextendable-maximal g (ask .slack) a ok p n };
+        }
+
+    pub leaf-only : {x : ℕ} → Found g ask s c x → x ≡ a
+    leaf-only f = sym (f .listed .top .1 a b (within f) p)
 
 -- the second bound, n, for s, the candidates c with v, and v
 pub bounded-empty : {g : List ℕ} {ask : Request} {s c v d n : ℕ} → Boundable g (ask .slack) s (with c v) v → d ≡ with c v
     → n ≡ secondBound g (ask .slack) s d v → n < ask .floor → Empty g ask (with s v) c
 bounded-empty {g} {ask} {s} {c} {v} b e z l x f =
     let held : In v x = omega (arith, f .lower v, with-same s v, bit-le x v) in
-    let upper : Sub x (bitOr s (with c v)) =
-    λ u. omega (arith, f .upper u, bit-or (with s v) c u, bit-with s v u, bit-or s (with c v) u, bit-with c v u) in
-    let sound =
-    second-sound g (ask .slack) s (with c v) v x (b .valid) (b .supported .inside .below) (f .listed .below) (f .listed .top .0)
-    (sub-trans s (with s v) x (sub-with s v) (f .lower)) held upper (b .apart) in
+    let lower = sub-trans s (with s v) x (sub-with s v) (f .lower) in
+    let inside = b .supported .inside .below in
+    let sound = second-sound g (ask .slack) s (with c v) v x (b .valid) inside (f .listed .below) (f .listed .top .0) lower held upper (b .apart) in
     omega (arith, f .listed .large, sound, ap (λ (y : ℕ). secondBound g (ask .slack) s y v) e)
-
--- ---- a leaf: s and c together are a plex
-
-module _ {g : List ℕ} {ask : Request} {s c : ℕ} (b : bitOr s c < 2 ^ length g) (p : Plex g (ask .slack) (bitOr s c)) where
-  pub leaf-found : Valid g → (T (extendable g (ask .slack) (bitOr s c)) → ⊥) → ask .floor ≤ size (bitOr s c) → Found g ask s c (bitOr s c)
-  leaf-found ok n l =
-      record {
-        lower = λ u. omega (arith, bit-or s c u);
-        upper = λ u. le-refl (bit (bitOr s c) u);
-        listed = record { below = b; large = l; top = unextendable-maximal g (ask .slack) (bitOr s c) ok p n };
-      }
-
-  pub leaf-only : {x : ℕ} → Found g ask s c x → x ≡ bitOr s c
-  leaf-only f = sym (f .listed .top .1 (bitOr s c) b (f .upper) p)
+  where
+    upper : Sub x (bitOr s (with c v))
+    upper u = omega (arith, f .upper u, bit-or (with s v) c u, bit-with s v u, bit-or s (with c v) u, bit-with c v u)
 
 -- ---- with and without a candidate v
 
@@ -158,15 +167,15 @@ module _ {g : List ℕ} {ask : Request} {s c v r : ℕ} (e : In v c) (h : Beside
   pub branches : (x : ℕ) → x < 2 ^ length g → union (found g ask s (without c v)) (found g ask (with s v) r) x ≡ found g ask s c x
   branches x l =
       let out = found g ask s (without c v) x in
-      let in-it = found g ask (with s v) r x in
+      let beside = found g ask (with s v) r x in
       same-test (union (found g ask s (without c v)) (found g ask (with s v) r) x) (found g ask s c x)
       (λ t. found-test g ask s c x (⊎-elim
       (λ w. found-without v (found-holds g ask s (without c v) x l w))
       (λ w. found-with (found-holds g ask (with s v) r x l w))
-      (or-cases out in-it t)))
+      (or-cases out beside t)))
       (λ t. let f = found-holds g ask s c x l t in by-bit x v
-      (λ i. or-right out in-it (found-test g ask (with s v) r x (with-found f i)))
-      (λ o. or-left out in-it (found-test g ask s (without c v) x (without-found v f o))))
+      (λ i. or-right out beside (found-test g ask (with s v) r x (with-found f i)))
+      (λ o. or-left out beside (found-test g ask s (without c v) x (without-found v f o))))
 
   -- where the branch with v is cut, the other has all
   pub branch-without : Empty g ask (with s v) r → (x : ℕ) → x < 2 ^ length g → found g ask s (without c v) x ≡ found g ask s c x

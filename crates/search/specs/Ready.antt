@@ -2,6 +2,7 @@
 --
 --   Settled g t ask             what stays put: a valid graph that sets can hold, numbers within range, and a table t of near rows
 --   Ready g t ask s c           the same, and candidates c that are compatible with s
+--   Whole g t ask s c a         the same, and a is s and c together
 --   Split g t ask s c v r rest  a vertex v of c is branched on: r are the candidates kept beside it, and rest those without it
 --   LeafReady g k a free        a is a set of vertices of the graph, and free are those that no member of a blocks
 --   unless b x                  the mask x alone, and nothing where b is true
@@ -10,6 +11,7 @@ use mathlib.Core.Path.{_≡_, sym, ap, subst}
 use mathlib.Core.Bool.{Bool, true, false, not, _&&_}
 use mathlib.Core.List.{List}
 use lib.Dec.{T, eqb}
+use lib.Bits.{bitOr}
 use lib.ListN.{length}
 use Rattle.sets.specs.Set.{In, without}
 use Rattle.sets.specs.Words.{width}
@@ -34,6 +36,10 @@ pub record Settled (g t : List ℕ) (ask : Request) : Type 0 where
 pub record Ready (g t : List ℕ) (ask : Request) (s c : ℕ) : Type 0 where
   pub settled : Settled g t ask
   pub fine : Compatible g (ask .slack) s c
+
+pub record Whole (g t : List ℕ) (ask : Request) (s c a : ℕ) : Type 0 where
+  pub ready : Ready g t ask s c
+  pub whole : a ≡ bitOr s c
 
 pub record Split (g t : List ℕ) (ask : Request) (s c v r rest : ℕ) : Type 0 where
   pub ready : Ready g t ask s c

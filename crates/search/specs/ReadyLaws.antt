@@ -1,11 +1,11 @@
 -- Laws of a step of the search: what it may ask of its callees, and what it has added where it is cut, at a leaf, and after both branches.
 use Prim.Native.Nat.{ℕ, _^_, _≤_, _<_}
 use native.Mathlib.Omega.{arith}
-use mathlib.Core.Path.{_≡_, refl, sym, subst}
+use mathlib.Core.Path.{_≡_}
 use mathlib.Core.Bool.{not}
 use mathlib.Core.List.{List}
 use lib.Dec.{T, T-not, not-T, eqb, eqb→eq, eqb-refl}
-use lib.Bits.{bitOr, or-lt}
+use lib.Bits.{or-lt}
 use lib.ListN.{length}
 use Rattle.sets.specs.Set.{bit, In, size, with, without, minus}
 use Rattle.sets.specs.Graph.{row}
@@ -28,88 +28,81 @@ use Rattle.search.specs.FoundLaws.{branches, branches-apart, branch-with
 use Rattle.search.specs.Partition.{Between}
 use Rattle.search.specs.TrimLaws.{Joinable, Beside, trimmed-compatible}
 use Rattle.search.specs.SiftLaws.{Siftable}
-use Rattle.search.specs.Ready.{Ready, Split, unless}
+use Rattle.search.specs.Ready.{Ready, Whole, Split, unless}
 
-module _ {g t : List ℕ} {ask : Request} {s c : ℕ} (h : Ready g t ask s c) where
-  -- ---- what the callees ask
+-- ---- what the callees ask of a candidate v
 
-  ready-at : {x : ℕ} → x < 2 ^ length g → Inside g x
-  ready-at l = record { some = h .settled .sized .some; most = h .settled .sized .most; below = l }
+module _ {g t : List ℕ} {ask : Request} {s c : ℕ} (h : Ready g t ask s c) (v : ℕ) (i : In v c) where
+  pub ready-vertex : v < length g
+  ready-vertex = in-below (length g) c v (h .fine .candidates) i
 
-  module _ {a : ℕ} (e : a ≡ bitOr s c) where
-    whole-below : a < 2 ^ length g
-    whole-below = rw e (or-lt (length g) s c (h .fine .below) (h .fine .candidates))
+  pub ready-joinable : Joinable g t s c v
+  ready-joinable =
+      record {
+        most = h .settled .sized .most;
+        long = h .settled .long;
+        valid = h .settled .valid;
+        below = h .fine .below;
+        candidates = h .fine .candidates;
+        apart = h .fine .apart;
+        member = i;
+      }
 
-    pub ready-inside : Inside g a
-    ready-inside = ready-at whole-below
+  pub ready-siftable : {d : ℕ} → Beside g ask s c v d → Siftable g ask s c v d
+  ready-siftable b =
+      record {
+        some = h .settled .sized .some;
+        most = h .settled .sized .most;
+        valid = h .settled .valid;
+        slack = omega (arith, h .settled .slack .1);
+        floor = h .settled .floor;
+        below = h .fine .below;
+        candidates = h .fine .candidates;
+        member = i;
+        beside = b;
+      }
 
-    pub ready-between : Between g s a
-    ready-between = record { below = whole-below; part = rw e (λ v. omega (arith, bit-or s c v)) }
+-- ---- s and c together
 
-  module _ (v : ℕ) (i : In v c) where
-    pub ready-vertex : v < length g
-    ready-vertex = in-below (length g) c v (h .fine .candidates) i
+module _ {g t : List ℕ} {ask : Request} {s c a : ℕ} (h : Whole g t ask s c a) where
+  whole-below : a < 2 ^ length g
+  whole-below = rw (h .whole) (or-lt (length g) s c (h .ready .fine .below) (h .ready .fine .candidates))
 
-    pub ready-joinable : Joinable g t s c v
-    ready-joinable =
-        record {
-          most = h .settled .sized .most;
-          long = h .settled .long;
-          valid = h .settled .valid;
-          below = h .fine .below;
-          candidates = h .fine .candidates;
-          apart = h .fine .apart;
-          member = i;
-        }
+  pub whole-inside : Inside g a
+  whole-inside = let sized = h .ready .settled .sized in record { some = sized .some; most = sized .most; below = whole-below }
 
-    pub ready-siftable : {d : ℕ} → Beside g ask s c v d → Siftable g ask s c v d
-    ready-siftable b =
-        record {
-          some = h .settled .sized .some;
-          most = h .settled .sized .most;
-          valid = h .settled .valid;
-          slack = omega (arith, h .settled .slack .1);
-          floor = h .settled .floor;
-          below = h .fine .below;
-          candidates = h .fine .candidates;
-          member = i;
-          beside = b;
-        }
+  pub whole-between : Between g s a
+  whole-between = record { below = whole-below; part = rw (h .whole) (λ v. omega (arith, bit-or s c v)) }
 
-  -- ---- cuts: nothing is added
-
+  -- cuts: nothing is added
   module _ {slots : List ℕ} {count : ℕ} where
     cut-adds : Empty g ask s c → Adds (2 ^ length g) (found g ask s c) slots count slots count
     cut-adds none = adds-none (2 ^ length g) (found g ask s c) slots count (cut-none g ask s c none)
 
-    module _ {a : ℕ} (e : a ≡ bitOr s c) where
-      pub short-adds : Short g (ask .slack) (ask .floor) s a → Adds (2 ^ length g) (found g ask s c) slots count slots count
-      short-adds l = cut-adds (short-empty (rw e at l))
+    pub short-adds : Short g (ask .slack) (ask .floor) s a → Adds (2 ^ length g) (found g ask s c) slots count slots count
+    short-adds l = cut-adds (short-empty (h .whole) l)
 
-      pub extendable-adds : T (extendable g (ask .slack) a) → Adds (2 ^ length g) (found g ask s c) slots count slots count
-      extendable-adds l = cut-adds (extendable-empty (h .settled .valid) (rw e at l))
+    pub extendable-adds : T (extendable g (ask .slack) a) → Adds (2 ^ length g) (found g ask s c) slots count slots count
+    extendable-adds l = cut-adds (extendable-empty (h .whole) (h .ready .settled .valid) l)
 
-      pub stuck-adds : (w : ℕ) → In w a → ask .slack < missing g a w → (bit c w ≡ 0) × (minus c (row g w) ≡ 0)
-          → Adds (2 ^ length g) (found g ask s c) slots count slots count
-      stuck-adds w i many z = cut-adds (stuck-empty w (rw e at i) (z .0) (rw e at many) (z .1))
+    pub stuck-adds : (w : ℕ) → In w a → ask .slack < missing g a w → (bit c w ≡ 0) × (minus c (row g w) ≡ 0)
+        → Adds (2 ^ length g) (found g ask s c) slots count slots count
+    stuck-adds w i many z = cut-adds (stuck-empty (h .whole) w i (z .0) many (z .1))
 
-  -- ---- a leaf: the one set that it may list is s and c together
-
-  leaf-same : Plex g (ask .slack) (bitOr s c) → ask .floor ≤ size (bitOr s c) → (y : ℕ) → y < 2 ^ length g
-      → unless (extendable g (ask .slack) (bitOr s c)) (bitOr s c) y ≡ found g ask s c y
+  -- a leaf: a is the one set that it may list
+  leaf-same : Plex g (ask .slack) a → ask .floor ≤ size a → (y : ℕ) → y < 2 ^ length g → unless (extendable g (ask .slack) a) a y ≡ found g ask s c y
   leaf-same p l y ly =
-      let all = bitOr s c in
-      let more = extendable g (ask .slack) all in
-      let below = whole-below (refl {a = all}) in
-      same-test (unless more all y) (found g ask s c y)
-      (λ z. subst (λ (x : ℕ). T (found g ask s c x)) (sym (eqb→eq y all (and-right (not more) (eqb y all) z)))
-      (found-test g ask s c all (leaf-found below p (h .settled .valid) (T-not more (and-left (not more) (eqb y all) z)) l)))
-      (λ z. let f = found-holds g ask s c y ly z in both (not more) (eqb y all)
-      (not-T more (λ w. extendable-empty (h .settled .valid) w y f)) (subst (λ (x : ℕ). T (eqb y x)) (leaf-only below p f) (eqb-refl y)))
+      let more = extendable g (ask .slack) a in
+      let ok = h .ready .settled .valid in
+      same-test (unless more a y) (found g ask s c y)
+      (λ z. found-test g ask s c y (rw (eqb→eq y a (and-right (not more) (eqb y a) z))
+      (leaf-found (h .whole) whole-below p ok (T-not more (and-left (not more) (eqb y a) z)) l)))
+      (λ z. let f = found-holds g ask s c y ly z in both (not more) (eqb y a)
+      (not-T more (λ w. extendable-empty (h .whole) ok w y f)) (rw (leaf-only (h .whole) whole-below p f) (eqb-refl a)))
 
-  pub leaf-adds : {a : ℕ} → a ≡ bitOr s c → Plex g (ask .slack) a → ask .floor ≤ size a → {before after : List ℕ} {count r : ℕ}
+  pub leaf-adds : {before after : List ℕ} {count r : ℕ} → Plex g (ask .slack) a → ask .floor ≤ size a
       → Adds (2 ^ length g) (unless (extendable g (ask .slack) a) a) before count after r → Adds (2 ^ length g) (found g ask s c) before count after r
-  leaf-adds e p l x = adds-same (2 ^ length g) _ (found g ask s c) _ _ _ _ (leaf-same (rw e at p) (rw e at l)) (rw e at x)
+  leaf-adds p l x = adds-same (2 ^ length g) (unless (extendable g (ask .slack) a) a) (found g ask s c) _ _ _ _ (leaf-same p l) x
 
 -- ---- the two branches
 
@@ -127,7 +120,12 @@ module _ {g t : List ℕ} {ask : Request} {s c v r rest : ℕ} (h : Split g t as
       let settled = h .ready .settled in
       let fine = h .ready .fine in
       record {
-        supported = record { inside = ready-at (h .ready) (fine .below); slack = settled .slack .1; plex = fine .plexed };
+        supported =
+            record {
+              inside = record { some = settled .sized .some; most = settled .sized .most; below = fine .below };
+              slack = settled .slack .1;
+              plex = fine .plexed;
+            };
         valid = settled .valid;
         some = settled .slack .0;
         vertex = split-vertex;

@@ -13,8 +13,8 @@ use Rattle.sets.specs.Words.{mask, masks}
 use Rattle.sets.specs.SubsetLaws.{in-below, in-of-sub, sub-below, positive-of}
 use Rattle.judging.specs.Request.{request}
 use Rattle.search.specs.Survey.{survey-plex, survey-free}
-use Rattle.search.specs.Ready.{Split}
-use Rattle.search.specs.ReadyLaws.{ready-between, ready-inside, ready-vertex, ready-joinable, ready-siftable}
+use Rattle.search.specs.Ready.{Whole, Split}
+use Rattle.search.specs.ReadyLaws.{ready-vertex, ready-joinable, ready-siftable, whole-inside, whole-between}
 use Rattle.search.specs.ReadyLaws.{short-adds, extendable-adds, stuck-adds, leaf-adds}
 use Rattle.search.specs.ReadyLaws.{split-vertex, with-boundable, with-ready, with-falls, without-falls, without-ready, without-adds, branches-adds}
 use Rattle.search.proofs.branch.branch.Reads as branch
@@ -108,6 +108,10 @@ module _ (t : ℕ) where
   abbrev picked : Sifted → Picked
   picked c = c .before .before .before
 
+  whole : (c : Joined) → let at = start c .args in
+      Whole (masks (now (at .rows))) (masks (now (at .near))) (request (at .k) (at .q)) (mask (at .s)) (mask (at .c)) (mask (c .join .result))
+  whole c = record { ready = start c .pre .1; whole = c .join .ensures }
+
   -- the vertex to branch on is a candidate
   member : (c : Picked) → sets.In (c .pick .result) (mask (entry c .args .c))
   member c = in-of-sub _ _ _ (c .before .before .before .among .ensures .part) (c .pick .ensures)
@@ -129,22 +133,19 @@ module _ (t : ℕ) where
   join-requires c κs = tt
 
   is-short-requires : branch-lts.Need-is-short-requires (calls t) (branch-at t) branch.Post
-  is-short-requires c κs = ready-between (start c .pre .1) (c .join .ensures)
+  is-short-requires c κs = whole-between (whole c)
 
   returns : branch-lts.Need-returns (calls t) (branch-at t) branch.Post
-  returns c =
-      let at = c .before .before in
-      short-adds (start at .pre .1) (at .join .ensures) (c .before .is-short .ensures .0 (c .if1 .taken))
+  returns c = short-adds (whole (c .before .before)) (c .before .is-short .ensures .0 (c .if1 .taken))
 
   survey-requires : branch-lts.Need-survey-requires (calls t) (branch-at t) branch.Post
-  survey-requires c κs = let at = c .before .before in ready-inside (start at .pre .1) (at .join .ensures)
+  survey-requires c κs = whole-inside (whole (c .before .before))
 
   leaf-requires : branch-lts.Need-leaf-requires (calls t) (branch-at t) branch.Post
   leaf-requires c κs =
       let seen = c .before .before .before .before in
-      let at = joined seen in
       record {
-        below = ready-inside (start at .pre .1) (at .join .ensures) .below;
+        below = whole-inside (whole (joined seen)) .below;
         unblocking = survey-free _ _ _ 0 _ _ _ refl (seen .survey .ensures);
       }
 
@@ -156,24 +157,23 @@ module _ (t : ℕ) where
       let done = c .before .before in
       let few = done .before .before in
       let seen = few .before .before .before in
-      let at = joined seen in
+      let large = seen .before .before .is-short .ensures .1 (seen .before .if1 .left) in
       let plex = survey-plex _ _ _ 0 _ _ _ refl (seen .survey .ensures) (few .if2 .taken) in
-      leaf-adds (start at .pre .1) (at .join .ensures) plex (seen .before .before .is-short .ensures .1 (seen .before .if1 .left)) (done .leaf .ensures)
+      leaf-adds (whole (joined seen)) plex large (done .leaf .ensures)
 
   is-extendable-requires : branch-lts.Need-is-extendable-requires (calls t) (branch-at t) branch.Post
   is-extendable-requires c κs = survey-free _ _ _ 0 _ _ _ refl (c .before .before .before .survey .ensures)
 
   returns-3 : branch-lts.Need-returns-3 (calls t) (branch-at t) branch.Post
   returns-3 c =
-      let at = joined (c .before .before .before .before .before) in
-      extendable-adds (start at .pre .1) (at .join .ensures) (c .before .is-extendable .ensures (c .if3 .taken))
+      let seen = c .before .before .before .before .before in
+      extendable-adds (whole (joined seen)) (c .before .is-extendable .ensures (c .if3 .taken))
 
   among-requires : branch-lts.Need-among-requires (calls t) (branch-at t) branch.Post
   among-requires c κs =
       let many = c .before .before in
       let seen = many .before .before .before in
-      let at = joined seen in
-      let inside = ready-inside (start at .pre .1) (at .join .ensures) in
+      let inside = whole-inside (whole (joined seen)) in
       record {
         vertex = in-below _ _ _ (inside .below) (seen .survey .ensures .reached (omega (arith, many .if2 .left)) .0);
         most = inside .most;
@@ -187,18 +187,17 @@ module _ (t : ℕ) where
       let from = c .before .before in
       let many = from .before .before .before in
       let seen = many .before .before .before in
-      let at = joined seen in
       let worst = seen .survey .ensures .reached (omega (arith, many .if2 .left)) in
-      stuck-adds (start at .pre .1) (at .join .ensures) _ (worst .0) (omega (arith, worst .1, many .if2 .left))
+      stuck-adds (whole (joined seen)) _ (worst .0) (omega (arith, worst .1, many .if2 .left))
       (from .among .ensures .none (eqb-true _ _ (sym (c .before .is-empty .ensures) ∙ c .if4 .taken)))
 
   pick-requires : branch-lts.Need-pick-requires (calls t) (branch-at t) branch.Post
   pick-requires c κs =
       let from = c .before .before in
-      let at = joined (from .before .before .before .before .before .before) in
+      let seen = from .before .before .before .before .before .before in
       record {
         some = positive-of _ (eqb-false _ _ (sym (c .before .is-empty .ensures) ∙ c .if4 .left));
-        below = sub-below _ _ _ (from .among .ensures .part) (start at .pre .1 .fine .candidates);
+        below = sub-below _ _ _ (from .among .ensures .part) (start (joined seen) .pre .1 .fine .candidates);
       }
 
   without-requires : branch-lts.Need-without-requires (calls t) (branch-at t) branch.Post
