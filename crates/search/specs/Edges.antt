@@ -10,7 +10,8 @@ use Rattle.sets.specs.Graph.{row}
 use Rattle.judging.specs.Request.{request}
 use Rattle.judging.specs.Graph.{adjacent, degree, missing}
 use Rattle.judging.specs.Plex.{plex, maximal}
-use Rattle.judging.specs.Refusal.{Reply, refused, answered, firstOf, outside, vertexCause, slackCause, floorCause, badRow, oneWay, lowestRow, rowCause, edgeCause, graphCauses, setCause, vertexOutCause}
+use Rattle.judging.specs.Refusal.{Reply, refused, answered, firstOf, outside, vertexCause, slackCause, floorCause}
+use Rattle.judging.specs.Refusal.{badRow, oneWay, lowestRow, rowCause, edgeCause, graphCauses, setCause, vertexOutCause}
 use Rattle.judging.specs.Calls.{graphCheck, slackCheck, requestCheck, setCheck}
 use Rattle.bounds.specs.Core.{dense, core}
 use Rattle.bounds.specs.Reach.{reach}

@@ -10,12 +10,15 @@ pub mod NearRows
 pub mod NearLaws
 pub mod SiftLaws
 pub mod Ready
+pub mod ReadyLaws
 pub mod Calls
 pub mod Cliques
 pub mod CliqueLaws
 pub mod SweepLaws
 pub mod TakeLaws
 pub mod EndLaws
-pub mod TopLaws
+pub mod Start
+pub mod StartLaws
+pub mod CallLaws
 pub mod OutcomeLaws
 pub mod Edges

@@ -19,7 +19,7 @@ use Rattle.lists.specs.Listing.{listing, Listed}
 use Rattle.sets.specs.KeepLaws.{Rising}
 use Rattle.lists.specs.ListingLaws.{listing-rising, listing-sound, listing-complete, floor-above}
 use Rattle.search.specs.Calls.{slotsCause, listReply, slotsAfter}
-use Rattle.search.specs.TopLaws.{reply-fits, reply-short, slots-fit, slots-short}
+use Rattle.search.specs.CallLaws.{reply-fits, reply-short, slots-fits, slots-short}
 
 -- ---- a refusal whose number is none of a check's
 
@@ -43,31 +43,35 @@ other-number (c ∷ cs) r {n} {v} o e = go (c .holds) e (other-number cs r (and-
 module _ (g : List ℕ) (ask : Request) where
   -- ---- m is answered
 
+  abbrev causes : ℕ → List Cause
+  causes room = requestCheck g ask ++ slotsCause room (length (listing g ask)) ∷ []
+
   module _ (room : ℕ) {m : ℕ} (e : listReply g ask room ≡ answered m tt) where
-    none-held : firstOf (requestCheck g ask ++ slotsCause room (length (listing g ask)) ∷ []) passed ≡ passed
+    none-holds : firstOf (causes room) passed ≡ passed
     unfolding listReply
-    none-held = answered-passed (requestCheck g ask ++ slotsCause room (length (listing g ask)) ∷ []) (length (listing g ask)) m tt tt e
+    none-holds = answered-passed (causes room) (length (listing g ask)) m tt tt e
 
     pub list-accepted : firstOf (requestCheck g ask) passed ≡ passed
-    list-accepted = passed-front (requestCheck g ask) (slotsCause room (length (listing g ask)) ∷ []) none-held
+    list-accepted = passed-front (requestCheck g ask) (slotsCause room (length (listing g ask)) ∷ []) none-holds
 
     pub list-count : m ≡ length (listing g ask)
     unfolding listReply
-    list-count = answered-value (requestCheck g ask ++ slotsCause room (length (listing g ask)) ∷ []) (length (listing g ask)) tt e
+    list-count = answered-value (causes room) (length (listing g ask)) tt e
 
     pub list-room : m ≤ room
     unfolding slotsCause
     list-room =
-        let cause = slotsCause room (length (listing g ask)) in
-        omega (arith, list-count, ltb-false room (length (listing g ask)) (passed-head cause [] (passed-back (requestCheck g ask) (cause ∷ []) none-held)))
+        let n = length (listing g ask) in
+        let last = passed-back (requestCheck g ask) (slotsCause room n ∷ []) none-holds in
+        omega (arith, list-count, ltb-false room n (passed-head (slotsCause room n) [] last))
 
   -- the first m slots hold the list, and the others keep what they held
   module _ (slots : List ℕ) {m : ℕ} (e : listReply g ask (length slots) ≡ answered m tt) where
     pub slots-list : slotsAfter g ask slots ≡ listing g ask ++ drop m slots
     slots-list =
-        let n = list-count (length slots) e in
-        sym (slots-fit g ask (list-accepted (length slots) e) slots (omega (arith, n, list-room (length slots) e)))
-        ∙ ap (λ (x : ℕ). listing g ask ++ drop x slots) (sym n)
+        let room = length slots in
+        let n = list-count room e in
+        slots-fits g ask (list-accepted room e) slots (omega (arith, n, list-room room e)) ∙ ap (λ (x : ℕ). listing g ask ++ drop x slots) (sym n)
 
     pub slots-first : take m (slotsAfter g ask slots) ≡ listing g ask
     slots-first = ap (take m) slots-list ∙ take-at (listing g ask) (drop m slots) m (sym (list-count (length slots) e))
@@ -76,14 +80,14 @@ module _ (g : List ℕ) (ask : Request) where
     slots-others = ap (drop m) slots-list ∙ drop-at (listing g ask) (drop m slots) m (sym (list-count (length slots) e))
 
     -- each maximal k-plex of at least q members is in one of the first m slots, nothing else is, and they rise
-    pub first-listed : (s : ℕ) → Mem s (take m (slotsAfter g ask slots)) → Listed g ask s
-    first-listed s h = listing-sound g ask s (subst (Mem s) slots-first h)
+    pub slots-sound : (s : ℕ) → Mem s (take m (slotsAfter g ask slots)) → Listed g ask s
+    slots-sound s h = listing-sound g ask s (subst (Mem s) slots-first h)
 
-    pub listed-first : (s : ℕ) → Listed g ask s → Mem s (take m (slotsAfter g ask slots))
-    listed-first s h = subst (Mem s) (sym slots-first) (listing-complete g ask s h)
+    pub slots-complete : (s : ℕ) → Listed g ask s → Mem s (take m (slotsAfter g ask slots))
+    slots-complete s h = subst (Mem s) (sym slots-first) (listing-complete g ask s h)
 
-    pub first-rising : Rising 0 (take m (slotsAfter g ask slots))
-    first-rising = subst (Rising 0) (sym slots-first) (listing-rising g ask)
+    pub slots-rising : Rising 0 (take m (slotsAfter g ask slots))
+    slots-rising = subst (Rising 0) (sym slots-first) (listing-rising g ask)
 
   -- ---- number 6
 
@@ -99,14 +103,8 @@ module _ (g : List ℕ) (ask : Request) where
     short = go (decLt (length slots) (length (listing g ask)))
       where
         go : Dec (length slots < length (listing g ask)) → (m ≡ length (listing g ask)) × (length slots < m)
-        go (yes l) =
-            let f = reply-short g ask short-accepted (length slots) l in
-            let n : m ≡ length (listing g ask) = cc in
-            (n, omega arith)
-        go (no l) =
-            let f = reply-fits g ask short-accepted (length slots) (omega arith) in
-            let z : _≡_ {A = ℕ} 0 1 = cc in
-            absurd (omega arith)
+        go (yes l) = let n : m ≡ length (listing g ask) = cc (reply-short g ask short-accepted (length slots) l) in (n, omega arith)
+        go (no l) = let z : _≡_ {A = ℕ} 0 1 = cc (reply-fits g ask short-accepted (length slots) (omega arith)) in absurd (omega arith)
 
     pub short-count : m ≡ length (listing g ask)
     short-count = short .0
@@ -115,7 +113,7 @@ module _ (g : List ℕ) (ask : Request) where
     short-room = short .1
 
     pub short-slots : slotsAfter g ask slots ≡ replicate (length slots) 0
-    short-slots = sym (slots-short g ask short-accepted slots (omega (arith, short)))
+    short-slots = slots-short g ask short-accepted slots (omega (arith, short))
 
   -- ---- m is 0: any number of slots is accepted, none included, and they are left
 
@@ -127,7 +125,7 @@ module _ (g : List ℕ) (ask : Request) where
     none-reply room = reply-fits g ask e room (omega (arith, zero)) ∙ ap (λ (n : ℕ). answered n tt) zero
 
     pub none-slots : (slots : List ℕ) → slotsAfter g ask slots ≡ slots
-    none-slots slots = sym (slots-fit g ask e slots (omega (arith, zero))) ∙ ap (λ (l : List ℕ). l ++ drop (length l) slots) none
+    none-slots slots = slots-fits g ask e slots (omega (arith, zero)) ∙ ap (λ (l : List ℕ). l ++ drop (length l) slots) none
 
   module _ (room : ℕ) (e : listReply g ask room ≡ answered 0 tt) where
     pub zero-none : listing g ask ≡ []

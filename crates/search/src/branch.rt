@@ -37,7 +37,7 @@ pub fn branch(
     slots: &mut [u64],
     count: usize,
 ) -> usize
-    requires { ⌜ Ready (masks (now rows)) (masks (now near)) (request k q) (mask s) (mask c) count ⌝ }
+    requires { ⌜ Ready (masks (now rows)) (masks (now near)) (request k q) (mask s) (mask c) ⌝ }
     ensures { λ r. ⌜ Adds (2 ^ length (masks (now (rows .entry)))) (found (masks (now (rows .entry))) (request k q) (mask s) (mask c))
         (masks (now (slots .entry))) count (masks (now (slots .exit))) r ⌝ }
 {

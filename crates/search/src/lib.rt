@@ -6,7 +6,7 @@ ghost use Rattle.judging.specs.Request.{request, asked};
 ghost use Rattle.lists.specs.Listing.{listed};
 ghost use Rattle.lists.specs.Placing.{Adds};
 ghost use Rattle.search.specs.Found.{found};
-ghost use Rattle.search.specs.TopLaws.{Accepted, Candidates, Startable};
+ghost use Rattle.search.specs.Start.{Accepted, Candidates, Startable};
 ghost use Rattle.search.specs.Calls.{Lists};
 
 mod branch;

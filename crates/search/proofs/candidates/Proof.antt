@@ -1,8 +1,8 @@
--- `search::candidates` meets its contract: every listed plex lies in the core, and in the full set.
+-- Every listed plex lies in the core, and in the set of all vertices.
 use native.Mathlib.Omega.{arith}
 use mathlib.Core.Path.{ap, _∙_}
 use Rattle.sets.specs.Set.{full}
-use Rattle.search.specs.TopLaws.{core-candidates, all-candidates}
+use Rattle.search.specs.StartLaws.{core-candidates, all-candidates}
 use borrow.Author.Needs.{needs}
 use Rattle.search.proofs.candidates.Statement.{statement}
 use Rattle.search.proofs.candidates.Tie as tie
@@ -14,16 +14,18 @@ core-requires : tie.Need-core-requires
 core-requires c κs = search needs
 
 returns : tie.Need-returns
-returns c = core-candidates _ _ _ (c .core .ensures)
+returns c = core-candidates (c .core .ensures)
 
 count-requires : tie.Need-count-requires
 count-requires c κs = search needs
 
 full-requires : tie.Need-full-requires
-full-requires c κs = (omega (arith, c .count .ensures, c .before .before .before .pre .sized .some), omega (arith, c .count .ensures, c .before .before .before .pre .sized .most))
+full-requires c κs =
+    let sized = c .before .before .before .pre .sized in
+    (omega (arith, c .count .ensures, sized .some), omega (arith, c .count .ensures, sized .most))
 
 returns-2 : tie.Need-returns-2
-returns-2 c = all-candidates _ _ _ (c .full .ensures ∙ ap full (c .before .count .ensures))
+returns-2 c = all-candidates (c .full .ensures ∙ ap full (c .before .count .ensures))
 
 pub candidates-spec : {M : Type 1} → statement M
 candidates-spec =

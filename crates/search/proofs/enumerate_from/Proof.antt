@@ -1,12 +1,9 @@
--- At slack 1 the candidates are common neighbours of s, which the search for cliques starts from; else the table of near rows is made, and the branch does the rest.
-use Prim.Native.Nat.{ℕ, _≤_}
+-- At slack 1 the candidates are common neighbours of s, from which the search for cliques starts.
+-- At any other the table of near rows is made, and the branch does the rest.
 use native.Mathlib.Omega.{arith}
-use mathlib.Core.Path.{refl, sym, subst}
+use mathlib.Core.Path.{_≡_, refl}
 use borrow.Author.Needs.{needs}
-use denote.Ref.{now}
-use lib.ListN.{length}
-use Rattle.sets.specs.Words.{masks}
-use Rattle.search.specs.TopLaws.{table-room, start-pairing, start-ready, start-taking, taking-one, adds-one}
+use Rattle.search.specs.StartLaws.{table-fits, start-pairing, start-ready, start-taking}
 use Rattle.search.proofs.enumerate_from.Statement.{statement}
 use Rattle.search.proofs.enumerate_from.Tie as tie
 
@@ -19,13 +16,16 @@ size-requires c κs = search needs
 start-requires : tie.Need-start-requires
 start-requires c κs =
     let start = c .before .before .before .before .before .before .before in
-    taking-one _ _ _ _ _ _ _ (omega arith) (start-taking _ _ _ _ _ 0 (start .pre) _ _ (omega arith) (c .before .size .ensures .0) (c .before .before .common .ensures))
+    start-taking (start .pre) (omega arith) (c .before .size .ensures .0) (c .before .before .common .ensures)
 
 same-length : tie.Need-same-length
 same-length c = search needs
 
 returns : tie.Need-returns
-returns c = adds-one _ _ _ _ _ _ _ _ _ (omega arith) (c .before .before .start .ensures)
+returns c =
+    let start = c .before .before .before .before .before .before .before .before .before .before in
+    let one : start .args .k ≡ 1 = omega arith in
+    rw one (c .before .before .start .ensures)
 
 mul-fill : tie.Need-mul-fill
 mul-fill c = search needs
@@ -36,8 +36,8 @@ slice-aggregate-fill c = search needs
 fill-requires : tie.Need-fill-requires
 fill-requires c κs =
     let ready = c .before .before .before .before .before .pre in (
-      record { sized = ready .accepted .sized; room = table-room _ _ (ready .accepted .sized) refl },
-      start-pairing _ _ _ (ready .accepted) (ready .candidates),
+      record { sized = ready .accepted .sized; room = table-fits _ (ready .accepted .sized) refl },
+      start-pairing (ready .accepted) (ready .candidates),
       ready .accepted .floor .0,
     )
 
@@ -51,8 +51,7 @@ branch-requires : tie.Need-branch-requires
 branch-requires c κs =
     let start = c .before .before .before .before .before .before .before .before .before .before in
     let filled = c .before .before .before .before .fill .ensures in
-    start-ready _ _ _ _ _ _ (start .pre) _
-    (subst (λ (n : ℕ). length (masks (now (start .args .rows))) ≤ n) (sym (filled .long)) (table-room _ _ (start .pre .accepted .sized) refl)) (filled .near)
+    start-ready (start .pre) (rw (filled .long) (table-fits _ (start .pre .accepted .sized) refl)) (filled .near)
 
 same-length-2 : tie.Need-same-length-2
 same-length-2 c = search needs
@@ -63,17 +62,5 @@ returns-2 c = search needs
 pub enumerate-from-spec : {M : Type 1} → statement M
 enumerate-from-spec =
     tie.close
-    (tie.spec
-    common-requires
-    size-requires
-    start-requires
-    same-length
-    returns
-    mul-fill
-    slice-aggregate-fill
-    fill-requires
-    slice-aggregate-branch
-    sifted-requires
-    branch-requires
-    same-length-2
-    returns-2)
+    (tie.spec common-requires size-requires start-requires same-length returns mul-fill slice-aggregate-fill fill-requires
+    slice-aggregate-branch sifted-requires branch-requires same-length-2 returns-2)

@@ -1,24 +1,52 @@
--- `search::list_with` meets its contract: a refused request leaves the slots, and else what was added, put in order, is the list.
-use Prim.Native.Nat.{ℕ, _≤_, _<_}
+-- A refused request leaves the slots. For any other the search adds what is listed: put in order that is the list, or the slots are cleared.
+use Prim.Native.Nat.{ℕ, _≤_}
 use native.Mathlib.Omega.{arith}
-use mathlib.Core.Path.{_≡_, sym, ap, subst, _∙_}
+use mathlib.Core.Path.{_≡_, sym, ap, _∙_}
 use mathlib.Core.List.{List}
 use borrow.Author.Needs.{needs}
 use denote.Ref.{now}
-use lib.ListN.{length, replicate}
+use lib.ListN.{length}
 use lib.Seq.{length-front, length-take-le}
 use Rattle.sets.specs.Words.{masks}
 use Rattle.sets.specs.Words.Operations.{offset-fits}
 use Rattle.judging.specs.Request.{asked}
-use Rattle.judging.specs.Calls.{numberOf, valueOf, checkedReply, requestCheck}
-use Rattle.judging.specs.RefusalLaws.{first-append}
-use Rattle.judging.specs.CallLaws.{check-failed, none-holds}
-use Rattle.search.specs.Calls.{listReply}
-use Rattle.lists.specs.Order.{Sorts}
-use Rattle.search.specs.TopLaws.{accepted, refused-slots, list-long, list-fits, list-slots, list-short, list-cleared}
+use Rattle.judging.specs.Refusal.{firstOf}
+use Rattle.judging.specs.Calls.{passed, checkedReply, requestCheck}
+use Rattle.judging.specs.CallLaws.{none-holds}
 use Rattle.lists.specs.PartLaws.{lent-before, back-before}
+use Rattle.search.specs.CallLaws.{accepted-holds, list-refused, list-length, list-fits, list-short}
 use Rattle.search.proofs.list_with.Statement.{statement}
 use Rattle.search.proofs.list_with.Tie as tie
+
+-- ---- places: the search is done, the slots are counted, the end of what was found is known
+
+abbrev start : tie.After-enumerate → tie.Start
+start c = c .before .before .before .before .before .before .before
+
+abbrev searched : tie.After-count → tie.After-enumerate
+searched c = c .before .before .before .before
+
+abbrev ended : tie.After-offset → tie.After-enumerate
+ended c = searched (c .before .before .before)
+
+-- what was found: how many sets, and the slots that hold them
+abbrev found : tie.After-enumerate → ℕ
+found c = c .enumerate .result
+
+abbrev filled : tie.After-enumerate → List ℕ
+filled c = c .enumerate .last .1 .1 .1 .1 .0
+
+checks-passed : (c : tie.After-enumerate) → firstOf (requestCheck (masks (now (start c .args .rows))) (asked (start c .args .request))) passed ≡ passed
+checks-passed c = none-holds _ _ (c .before .before .before .before .check-request .ensures) (c .before .before .enum-told .given .1)
+
+-- the list fits
+room-fits : (c : tie.Else1) → found (searched (c .before)) ≤ length (masks (filled (searched (c .before))))
+room-fits c = omega (arith, c .if1 .left, c .before .count .ensures)
+
+end-fits : (c : tie.After-offset) → c .offset .result ≤ length (filled (ended c))
+end-fits c = offset-fits (found (ended c)) (c .offset .result) (filled (ended c)) (c .offset .ensures) (room-fits (c .before .before))
+
+-- ---- the needs
 
 check-request-requires : tie.Need-check-request-requires
 check-request-requires c κs = search needs
@@ -27,20 +55,15 @@ enum-known-checked : tie.Need-enum-known-checked
 enum-known-checked c = search needs
 
 returns : tie.Need-returns
-unfolding listReply
 returns c =
-    let f = c .before .checked .given .0 .0 in
-    let e = c .before .checked .given .1 in
-    record {
-      reply = check-failed (requestCheck (masks (now (c .before .before .before .before .before .before .args .rows))) (asked (c .before .before .before .before .before .before .args .request))) _ (c .before .before .before .check-request .ensures) f _ e ∙ sym (first-append (requestCheck (masks (now (c .before .before .before .before .before .before .args .rows))) (asked (c .before .before .before .before .before .before .args .request))) _ _);
-      slots = refused-slots _ _ (numberOf f) (valueOf f) _ (sym (c .before .before .before .check-request .ensures) ∙ ap checkedReply e);
-    }
+    let failed = c .before .checked .given in
+    list-refused _ _ (failed .0 .0) _ (sym (c .before .before .before .check-request .ensures) ∙ ap checkedReply (failed .1))
 
 enum-told : tie.Need-enum-told
 enum-told c = search needs
 
 enumerate-requires : tie.Need-enumerate-requires
-enumerate-requires c κs = accepted _ _ (none-holds _ _ (c .before .before .before .check-request .ensures) (c .before .enum-told .given .1))
+enumerate-requires c κs = accepted-holds _ _ (none-holds _ _ (c .before .before .before .check-request .ensures) (c .before .enum-told .given .1))
 
 count-requires : tie.Need-count-requires
 count-requires c κs = search needs
@@ -53,31 +76,14 @@ same-length c = search needs
 
 returns-2 : tie.Need-returns-2
 returns-2 c =
-    let e = (none-holds _ _ (c .before .before .before .before .before .before .before .before .before .before .before .before .before .check-request .ensures) (c .before .before .before .before .before .before .before .before .before .before .before .enum-told .given .1)) in
-    let x = c .before .before .before .before .before .before .before .before .before .enumerate .ensures in
-    let long = list-long _ _ e _ _ _ x in
-    let less : length (masks (now (c .before .before .before .before .before .before .before .before .before .before .before .before .before .before .before .before .args .slots))) < c .before .before .before .before .before .before .before .before .before .enumerate .result = omega (arith, c .before .before .before .before .if1 .taken, c .before .before .before .before .before .count .ensures, long) in
-    record {
-      reply = list-short _ _ e _ _ _ x less;
-      slots = c .before .before .clear .ensures ∙ ap (λ (n : ℕ). replicate n 0) long ∙ list-cleared _ _ e _ _ _ x less;
-    }
-
--- the list fits
-fits : (c : tie.Else1) → c .before .before .before .before .before .enumerate .result ≤ length (masks (c .before .before .before .before .before .enumerate .last .1 .1 .1 .1 .0))
-fits c = omega (arith, c .if1 .left, c .before .count .ensures)
+    let few = c .before .before .before .before in
+    let at = searched (few .before) in
+    let e = checks-passed at in
+    let x = at .enumerate .ensures in
+    list-short _ _ e x (omega (arith, few .if1 .taken, few .before .count .ensures, list-length _ _ e x)) (c .before .before .clear .ensures)
 
 offset-requires : tie.Need-offset-requires
-offset-requires c κs = fits (c .before)
-
--- what was found: how many sets, and the slots that hold them
-abbrev found : tie.After-offset → ℕ
-found c = c .before .before .before .before .before .before .before .enumerate .result
-
-abbrev filled : tie.After-offset → List ℕ
-filled c = c .before .before .before .before .before .before .before .enumerate .last .1 .1 .1 .1 .0
-
-end-fits : (c : tie.After-offset) → c .offset .result ≤ length (filled c)
-end-fits c = offset-fits (found c) (c .offset .result) (filled c) (c .offset .ensures) (fits (c .before .before))
+offset-requires c κs = room-fits (c .before)
 
 slice-relend-prefix-sort : tie.Need-slice-relend-prefix-sort
 slice-relend-prefix-sort c = end-fits c
@@ -90,41 +96,28 @@ sort-requires c κs = search needs
 
 same-length-2 : tie.Need-same-length-2
 same-length-2 c =
-    let at = c .before .before .before .before in
-    length-front (filled at) (c .before .before .sort .last .0) (at .offset .result) (c .before .before .sort .kept .0) ∙ at .before .before .before .before .before .before .before .enumerate .kept .1 .1 .1 .1 .0
+    let sorted = c .before .before in
+    let lent = sorted .before .before in
+    let at = ended lent in
+    length-front (filled at) (sorted .sort .last .0) (lent .offset .result) (sorted .sort .kept .0) ∙ at .enumerate .kept .1 .1 .1 .1 .0
 
 returns-3 : tie.Need-returns-3
 returns-3 c =
-    let at = c .before .before .before .before in
-    let end : ℕ = at .offset .result in
-    let room = fits (at .before .before) in
-    let e = none-holds _ _ (at .before .before .before .before .before .before .before .before .before .before .before .check-request .ensures) (at .before .before .before .before .before .before .before .before .before .enum-told .given .1) in
-    let x = at .before .before .before .before .before .before .before .enumerate .ensures in
-    let part : List ℕ = c .before .before .sort .last .0 in
-    let long : length part ≡ end = c .before .before .sort .kept .0 ∙ length-take-le end (filled at) (end-fits at) in
-    let enough : found at ≤ length (masks (now (at .before .before .before .before .before .before .before .before .before .before .before .before .before .before .args .slots))) = omega (arith, room, list-long _ _ e _ _ _ x) in
-    let sorted = subst (λ (t : List ℕ). Sorts t (masks part)) (lent-before (filled at) (found at) end (at .offset .ensures) room) (c .before .before .sort .ensures) in
-    record {
-      reply = list-fits _ _ e _ _ _ x enough;
-      slots = back-before (filled at) (found at) end (at .offset .ensures) part long ∙ list-slots _ _ e _ _ _ x (masks part) sorted enough;
-    }
+    let sorted = c .before .before in
+    let lent = sorted .before .before in
+    let at = ended lent in
+    let room = room-fits (lent .before .before) in
+    let e = checks-passed at in
+    let x = at .enumerate .ensures in
+    let part : List ℕ = sorted .sort .last .0 in
+    let end : ℕ = lent .offset .result in
+    let long : length part ≡ end = sorted .sort .kept .0 ∙ length-take-le end (filled at) (end-fits lent) in
+    list-fits _ _ e x (omega (arith, room, list-length _ _ e x))
+    (rw (lent-before (filled at) (found at) end (lent .offset .ensures) room) at (sorted .sort .ensures))
+    (back-before (filled at) (found at) end (lent .offset .ensures) part long)
 
 pub list-with-spec : {M : Type 1} → statement M
 list-with-spec =
     tie.close
-    (tie.spec
-    check-request-requires
-    enum-known-checked
-    returns
-    enum-told
-    enumerate-requires
-    count-requires
-    clear-requires
-    same-length
-    returns-2
-    offset-requires
-    slice-relend-prefix-sort
-    slice-aggregate-sort
-    sort-requires
-    same-length-2
-    returns-3)
+    (tie.spec check-request-requires enum-known-checked returns enum-told enumerate-requires count-requires clear-requires same-length
+    returns-2 offset-requires slice-relend-prefix-sort slice-aggregate-sort sort-requires same-length-2 returns-3)

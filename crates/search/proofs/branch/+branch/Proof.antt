@@ -1,4 +1,4 @@
--- The proof of the cycle of calls {branch}: each cut adds nothing, a leaf adds itself, and the branches with and without a vertex share the rest.
+-- Each cut adds nothing, a leaf adds itself, and the branches with and without a vertex share the rest.
 -- The measure is the number c, which falls when a candidate leaves it.
 use Prim.Native.Nat.{ℕ, _<_}
 use borrow.Fn.Kinds.{In}
@@ -7,11 +7,16 @@ use mathlib.Core.Path.{refl, sym, _∙_}
 use native.Mathlib.Omega.{arith}
 use borrow.Author.Needs.{needs}
 use borrow.Author.Tests.{eqb-true, eqb-false}
-use Rattle.sets.specs.Words.{mask}
+use denote.Ref.{now}
+use Rattle.sets.specs.Set as sets
+use Rattle.sets.specs.Words.{mask, masks}
 use Rattle.sets.specs.SubsetLaws.{in-below, in-of-sub, sub-below, positive-of}
-use Rattle.lists.specs.PlacingLaws.{adds-same}
+use Rattle.judging.specs.Request.{request}
 use Rattle.search.specs.Survey.{survey-plex, survey-free}
-use Rattle.search.specs.Ready.{ready-between, ready-inside, ready-joinable, ready-siftable, short-adds, extendable-adds, stuck-adds, leaf-adds, with-boundable, with-ready, with-falls, without-falls, without-ready, without-adds, branches-add}
+use Rattle.search.specs.Ready.{Whole, Split}
+use Rattle.search.specs.ReadyLaws.{ready-vertex, ready-joinable, ready-siftable, whole-inside, whole-between}
+use Rattle.search.specs.ReadyLaws.{short-adds, extendable-adds, stuck-adds, leaf-adds}
+use Rattle.search.specs.ReadyLaws.{split-vertex, with-boundable, with-ready, with-falls, without-falls, without-ready, without-adds, branches-adds}
 use Rattle.search.proofs.branch.branch.Reads as branch
 use Rattle.search.proofs.branch.branch.Kinds as branch-kinds
 use Rattle.search.proofs.branch.+branch.Lts-branch as branch-lts
@@ -77,125 +82,178 @@ calls t = (
 )
 
 module _ (t : ℕ) where
+  -- ---- places: s and c are joined, surveyed, a vertex is picked, the candidates beside it are sifted
+
+  abbrev Joined : Type 0
+  Joined = branch-lts.After-join (calls t) (branch-at t) branch.Post
+
+  abbrev Surveyed : Type 0
+  Surveyed = branch-lts.After-survey (calls t) (branch-at t) branch.Post
+
+  abbrev Picked : Type 0
+  Picked = branch-lts.After-pick (calls t) (branch-at t) branch.Post
+
+  abbrev Sifted : Type 0
+  Sifted = branch-lts.After-sift (calls t) (branch-at t) branch.Post
+
+  abbrev start : Joined → branch-lts.Start (calls t) (branch-at t) branch.Post
+  start c = c .before .before .before .before
+
+  abbrev joined : Surveyed → Joined
+  joined c = c .before .before .before
+
+  abbrev entry : Picked → branch-lts.Start (calls t) (branch-at t) branch.Post
+  entry c = start (joined (c .before .before .before .before .before .before .before .before .before))
+
+  abbrev picked : Sifted → Picked
+  picked c = c .before .before .before
+
+  whole : (c : Joined) → let at = start c .args in
+      Whole (masks (now (at .rows))) (masks (now (at .near))) (request (at .k) (at .q)) (mask (at .s)) (mask (at .c)) (mask (c .join .result))
+  whole c = record { ready = start c .pre .1; whole = c .join .ensures }
+
+  -- the vertex to branch on is a candidate
+  member : (c : Picked) → sets.In (c .pick .result) (mask (entry c .args .c))
+  member c = in-of-sub _ _ _ (c .before .before .before .among .ensures .part) (c .pick .ensures)
+
+  split : (c : Sifted) → let at = entry (picked c) .args in
+      Split (masks (now (at .rows))) (masks (now (at .near))) (request (at .k) (at .q)) (mask (at .s)) (mask (at .c))
+      (picked c .pick .result) (mask (c .sift .result)) (mask (c .before .before .without .result))
+  split c =
+      record {
+        ready = entry (picked c) .pre .1;
+        member = member (picked c);
+        beside = c .sift .ensures;
+        others = c .before .before .without .ensures;
+      }
+
+  -- ---- the needs
+
   join-requires : branch-lts.Need-join-requires (calls t) (branch-at t) branch.Post
   join-requires c κs = tt
 
   is-short-requires : branch-lts.Need-is-short-requires (calls t) (branch-at t) branch.Post
-  is-short-requires c κs = ready-between _ _ _ _ _ _ (c .before .before .before .before .pre .1) _ (c .join .ensures)
+  is-short-requires c κs = whole-between (whole c)
 
   returns : branch-lts.Need-returns (calls t) (branch-at t) branch.Post
-  returns c = short-adds _ _ _ _ _ _ (c .before .before .before .before .before .before .pre .1) _ (c .before .before .join .ensures) _ (c .before .is-short .ensures .0 (c .if1 .taken))
+  returns c = short-adds (whole (c .before .before)) (c .before .is-short .ensures .0 (c .if1 .taken))
 
   survey-requires : branch-lts.Need-survey-requires (calls t) (branch-at t) branch.Post
-  survey-requires c κs = ready-inside _ _ _ _ _ _ (c .before .before .before .before .before .before .pre .1) _ (c .before .before .join .ensures)
+  survey-requires c κs = whole-inside (whole (c .before .before))
 
   leaf-requires : branch-lts.Need-leaf-requires (calls t) (branch-at t) branch.Post
   leaf-requires c κs =
+      let seen = c .before .before .before .before in
       record {
-        below = ready-inside _ _ _ _ _ _ (c .before .before .before .before .before .before .before .before .before .before .before .pre .1) _ (c .before .before .before .before .before .before .before .join .ensures) .below;
-        unblocking = survey-free _ _ _ 0 _ _ _ refl (c .before .before .before .before .survey .ensures);
+        below = whole-inside (whole (joined seen)) .below;
+        unblocking = survey-free _ _ _ 0 _ _ _ refl (seen .survey .ensures);
       }
 
   same-length : branch-lts.Need-same-length (calls t) (branch-at t) branch.Post
   same-length c = search needs
 
   returns-2 : branch-lts.Need-returns-2 (calls t) (branch-at t) branch.Post
-  returns-2 c = adds-same _ _ _ _ _ _ _ (leaf-adds _ _ _ _ _ _ (c .before .before .before .before .before .before .before .before .before .before .before .before .before .before .pre .1) _ (c .before .before .before .before .before .before .before .before .before .before .join .ensures) (survey-plex _ _ _ 0 _ _ _ refl (c .before .before .before .before .before .before .before .survey .ensures) (c .before .before .before .before .if2 .taken)) (c .before .before .before .before .before .before .before .before .before .is-short .ensures .1 (c .before .before .before .before .before .before .before .before .if1 .left))) (c .before .before .leaf .ensures)
+  returns-2 c =
+      let done = c .before .before in
+      let few = done .before .before in
+      let seen = few .before .before .before in
+      let large = seen .before .before .is-short .ensures .1 (seen .before .if1 .left) in
+      let plex = survey-plex _ _ _ 0 _ _ _ refl (seen .survey .ensures) (few .if2 .taken) in
+      leaf-adds (whole (joined seen)) plex large (done .leaf .ensures)
 
   is-extendable-requires : branch-lts.Need-is-extendable-requires (calls t) (branch-at t) branch.Post
   is-extendable-requires c κs = survey-free _ _ _ 0 _ _ _ refl (c .before .before .before .survey .ensures)
 
   returns-3 : branch-lts.Need-returns-3 (calls t) (branch-at t) branch.Post
-  returns-3 c = extendable-adds _ _ _ _ _ _ (c .before .before .before .before .before .before .before .before .before .before .before .before .pre .1) _ (c .before .before .before .before .before .before .before .before .join .ensures) _ (c .before .is-extendable .ensures (c .if3 .taken))
+  returns-3 c =
+      let seen = c .before .before .before .before .before in
+      extendable-adds (whole (joined seen)) (c .before .is-extendable .ensures (c .if3 .taken))
 
   among-requires : branch-lts.Need-among-requires (calls t) (branch-at t) branch.Post
   among-requires c κs =
-      let i = (c .before .before .before .before .before .survey .ensures) .reached (omega (arith, c .before .before .if2 .left)) .0 in
-      record { vertex = in-below _ _ _ (ready-inside _ _ _ _ _ _ (c .before .before .before .before .before .before .before .before .before .before .before .before .pre .1) _ (c .before .before .before .before .before .before .before .before .join .ensures) .below) i; most = (c .before .before .before .before .before .before .before .before .before .before .before .before .pre .1) .settled .most }
+      let many = c .before .before in
+      let seen = many .before .before .before in
+      let inside = whole-inside (whole (joined seen)) in
+      record {
+        vertex = in-below _ _ _ (inside .below) (seen .survey .ensures .reached (omega (arith, many .if2 .left)) .0);
+        most = inside .most;
+      }
 
   is-empty-requires : branch-lts.Need-is-empty-requires (calls t) (branch-at t) branch.Post
   is-empty-requires c κs = tt
 
   returns-4 : branch-lts.Need-returns-4 (calls t) (branch-at t) branch.Post
   returns-4 c =
-      let w = (c .before .before .before .before .before .before .before .before .survey .ensures) .reached (omega (arith, c .before .before .before .before .before .if2 .left)) in
-      stuck-adds _ _ _ _ _ _ (c .before .before .before .before .before .before .before .before .before .before .before .before .before .before .before .pre .1) _ (c .before .before .before .before .before .before .before .before .before .before .before .join .ensures) _ (c .before .before .before .before .before .before .before .before .survey .result .worst) (w .0) (omega (arith, w .1, c .before .before .before .before .before .if2 .left))
-      (c .before .before .among .ensures .none (eqb-true _ _ (sym (c .before .is-empty .ensures) ∙ c .if4 .taken)))
+      let from = c .before .before in
+      let many = from .before .before .before in
+      let seen = many .before .before .before in
+      let worst = seen .survey .ensures .reached (omega (arith, many .if2 .left)) in
+      stuck-adds (whole (joined seen)) _ (worst .0) (omega (arith, worst .1, many .if2 .left))
+      (from .among .ensures .none (eqb-true _ _ (sym (c .before .is-empty .ensures) ∙ c .if4 .taken)))
 
   pick-requires : branch-lts.Need-pick-requires (calls t) (branch-at t) branch.Post
   pick-requires c κs =
+      let from = c .before .before in
+      let seen = from .before .before .before .before .before .before in
       record {
         some = positive-of _ (eqb-false _ _ (sym (c .before .is-empty .ensures) ∙ c .if4 .left));
-        below = sub-below _ _ _ (c .before .before .among .ensures .part) ((c .before .before .before .before .before .before .before .before .before .before .before .before .before .before .before .pre .1) .fine .candidates);
+        below = sub-below _ _ _ (from .among .ensures .part) (start (joined seen) .pre .1 .fine .candidates);
       }
 
   without-requires : branch-lts.Need-without-requires (calls t) (branch-at t) branch.Post
-  without-requires c κs = omega (arith, in-below _ _ _ ((c .before .before .before .before .before .before .before .before .before .before .before .before .before .before .before .before .pre .1) .fine .candidates) (in-of-sub _ _ _ (c .before .before .before .among .ensures .part) (c .pick .ensures)), (c .before .before .before .before .before .before .before .before .before .before .before .before .before .before .before .before .pre .1) .settled .most)
+  without-requires c κs = let ready = entry c .pre .1 in omega (arith, ready-vertex ready _ (member c), ready .settled .sized .most)
 
   beside-requires : branch-lts.Need-beside-requires (calls t) (branch-at t) branch.Post
-  beside-requires c κs = ready-joinable _ _ _ _ _ _ (c .before .before .before .before .before .before .before .before .before .before .before .before .before .before .before .before .before .pre .1) _ (in-of-sub _ _ _ (c .before .before .before .before .among .ensures .part) (c .before .pick .ensures))
+  beside-requires c κs = ready-joinable (entry (c .before) .pre .1) _ (member (c .before))
 
   sift-requires : branch-lts.Need-sift-requires (calls t) (branch-at t) branch.Post
-  sift-requires c κs = ready-siftable _ _ _ _ _ _ (c .before .before .before .before .before .before .before .before .before .before .before .before .before .before .before .before .before .before .pre .1) _ (in-of-sub _ _ _ (c .before .before .before .before .before .among .ensures .part) (c .before .before .pick .ensures)) _ (c .beside .ensures _ refl ((c .before .before .before .before .before .before .before .before .before .before .before .before .before .before .before .before .before .before .pre .1) .settled .near))
+  sift-requires c κs =
+      let at = c .before .before in
+      let ready = entry at .pre .1 in
+      ready-siftable ready _ (member at) (c .beside .ensures _ refl (ready .settled .near))
 
   branch-requires : branch-lts.Need-branch-requires (calls t) (branch-at t) branch.Post
-  branch-requires c κs = (
-    omega (arith, without-falls _ _ _ _ _ _ (c .before .before .before .before .before .before .before .before .before .before .before .before .before .before .before .before .before .before .before .before .pre .1) _ (in-of-sub _ _ _ (c .before .before .before .before .before .before .before .among .ensures .part) (c .before .before .before .before .pick .ensures)) _ (c .before .sift .ensures) _ (c .before .before .before .without .ensures), c .before .before .before .before .before .before .before .before .before .before .before .before .before .before .before .before .before .before .before .before .pre .0),
-    without-ready _ _ _ _ _ _ (c .before .before .before .before .before .before .before .before .before .before .before .before .before .before .before .before .before .before .before .before .pre .1) _ (in-of-sub _ _ _ (c .before .before .before .before .before .before .before .among .ensures .part) (c .before .before .before .before .pick .ensures)) _ (c .before .sift .ensures) _ (c .before .before .before .without .ensures),
-  )
+  branch-requires c κs = let h = split (c .before) in (omega (arith, without-falls h, entry (picked (c .before)) .pre .0), without-ready h)
 
   is-bounded-requires : branch-lts.Need-is-bounded-requires (calls t) (branch-at t) branch.Post
-  is-bounded-requires c κs = with-boundable _ _ _ _ _ _ (c .before .before .before .before .before .before .before .before .before .before .before .before .before .before .before .before .before .before .before .before .before .before .before .pre .1) _ (in-of-sub _ _ _ (c .before .before .before .before .before .before .before .before .before .before .among .ensures .part) (c .before .before .before .before .before .before .before .pick .ensures)) _ (c .before .before .before .before .sift .ensures)
+  is-bounded-requires c κs = with-boundable (split (c .before .before .before .before))
 
   same-length-2 : branch-lts.Need-same-length-2 (calls t) (branch-at t) branch.Post
   same-length-2 c = search needs
 
   returns-5 : branch-lts.Need-returns-5 (calls t) (branch-at t) branch.Post
-  returns-5 c = without-adds _ _ _ _ _ _ (c .before .before .before .before .before .before .before .before .before .before .before .before .before .before .before .before .before .before .before .before .before .before .before .before .before .pre .1) _ (in-of-sub _ _ _ (c .before .before .before .before .before .before .before .before .before .before .before .before .among .ensures .part) (c .before .before .before .before .before .before .before .before .before .pick .ensures)) _ (c .before .before .before .before .before .before .sift .ensures) _ (c .before .before .before .before .before .before .before .before .without .ensures) _ _ _ (c .before .before .before .before .branch .ensures) (c .before .is-bounded .ensures (c .if5 .taken))
+  returns-5 c =
+      let others = c .before .before .before .before in
+      without-adds (split (others .before .before)) (others .branch .ensures) (c .before .is-bounded .ensures (c .if5 .taken))
 
   with-requires : branch-lts.Need-with-requires (calls t) (branch-at t) branch.Post
-  with-requires c κs = omega (arith, in-below _ _ _ ((c .before .before .before .before .before .before .before .before .before .before .before .before .before .before .before .before .before .before .before .before .before .before .before .before .before .pre .1) .fine .candidates) (in-of-sub _ _ _ (c .before .before .before .before .before .before .before .before .before .before .before .before .among .ensures .part) (c .before .before .before .before .before .before .before .before .before .pick .ensures)), (c .before .before .before .before .before .before .before .before .before .before .before .before .before .before .before .before .before .before .before .before .before .before .before .before .before .pre .1) .settled .most)
+  with-requires c κs =
+      let h = split (c .before .before .before .before .before .before) in
+      omega (arith, split-vertex h, h .ready .settled .sized .most)
 
   fewer-requires : branch-lts.Need-fewer-requires (calls t) (branch-at t) branch.Post
   fewer-requires c κs = tt
 
   branch-requires-2 : branch-lts.Need-branch-requires-2 (calls t) (branch-at t) branch.Post
-  branch-requires-2 c κs = (
-    omega (arith, with-falls _ _ _ _ _ _ (c .before .before .before .before .before .before .before .before .before .before .before .before .before .before .before .before .before .before .before .before .before .before .before .before .before .before .before .before .pre .1) _ (in-of-sub _ _ _ (c .before .before .before .before .before .before .before .before .before .before .before .before .before .before .before .among .ensures .part) (c .before .before .before .before .before .before .before .before .before .before .before .before .pick .ensures)) _ (c .before .before .before .before .before .before .before .before .before .sift .ensures), c .before .before .before .before .before .before .before .before .before .before .before .before .before .before .before .before .before .before .before .before .before .before .before .before .before .before .before .before .pre .0),
-    with-ready _ _ _ _ _ _ (c .before .before .before .before .before .before .before .before .before .before .before .before .before .before .before .before .before .before .before .before .before .before .before .before .before .before .before .before .pre .1) _ (in-of-sub _ _ _ (c .before .before .before .before .before .before .before .before .before .before .before .before .before .before .before .among .ensures .part) (c .before .before .before .before .before .before .before .before .before .before .before .before .pick .ensures)) _ (c .before .before .before .before .before .before .before .before .before .sift .ensures) _ (c .before .before .before .before .before .before .before .before .before .before .before .without .ensures) _ _ _ (c .before .before .before .before .before .before .before .branch .ensures) _ (c .before .before .with .ensures),
-  )
+  branch-requires-2 c κs =
+      let with = c .before .before in
+      let sifted = with .before .before .before .before .before .before .before in
+      let h = split sifted in
+      (omega (arith, with-falls h, entry (picked sifted) .pre .0), with-ready h (with .with .ensures))
 
   same-length-3 : branch-lts.Need-same-length-3 (calls t) (branch-at t) branch.Post
   same-length-3 c = search needs
 
   returns-6 : branch-lts.Need-returns-6 (calls t) (branch-at t) branch.Post
-  returns-6 c = branches-add _ _ _ _ _ _ (c .before .before .before .before .before .before .before .before .before .before .before .before .before .before .before .before .before .before .before .before .before .before .before .before .before .before .before .before .before .before .before .pre .1) _ (in-of-sub _ _ _ (c .before .before .before .before .before .before .before .before .before .before .before .before .before .before .before .before .before .before .among .ensures .part) (c .before .before .before .before .before .before .before .before .before .before .before .before .before .before .before .pick .ensures)) _ (c .before .before .before .before .before .before .before .before .before .before .before .before .sift .ensures) _ (c .before .before .before .before .before .before .before .before .before .before .before .before .before .before .without .ensures) _ _ _ (c .before .before .before .before .before .before .before .before .before .before .branch .ensures) _ (c .before .before .before .before .before .with .ensures) _ _ (c .before .before .branch2 .ensures)
+  returns-6 c =
+      let with = c .before .before .before .before .before in
+      let others = with .before .before .before .before .before in
+      branches-adds (split (others .before .before)) (others .branch .ensures) (with .with .ensures) (c .before .before .branch2 .ensures)
 
 pub +branch-spec : {M : Type 1} → statement M
 +branch-spec =
     close μ-branch (λ t. branch-lts.spec (calls t) (branch-at t) branch.Post
-    (join-requires t)
-    (is-short-requires t)
-    (returns t)
-    (survey-requires t)
-    (leaf-requires t)
-    (same-length t)
-    (returns-2 t)
-    (is-extendable-requires t)
-    (returns-3 t)
-    (among-requires t)
-    (is-empty-requires t)
-    (returns-4 t)
-    (pick-requires t)
-    (without-requires t)
-    (beside-requires t)
-    (sift-requires t)
-    (branch-requires t)
-    (is-bounded-requires t)
-    (same-length-2 t)
-    (returns-5 t)
-    (with-requires t)
-    (fewer-requires t)
-    (branch-requires-2 t)
-    (same-length-3 t)
-    (returns-6 t))
+    (join-requires t) (is-short-requires t) (returns t) (survey-requires t) (leaf-requires t) (same-length t) (returns-2 t)
+    (is-extendable-requires t) (returns-3 t) (among-requires t) (is-empty-requires t) (returns-4 t) (pick-requires t) (without-requires t)
+    (beside-requires t) (sift-requires t) (branch-requires t) (is-bounded-requires t) (same-length-2 t) (returns-5 t) (with-requires t)
+    (fewer-requires t) (branch-requires-2 t) (same-length-3 t) (returns-6 t))

@@ -1,4 +1,4 @@
--- `search::branch::leaf` meets its contract: an extendable plex adds nothing, any other itself.
+-- An extendable plex adds nothing, any other adds itself.
 use mathlib.Core.Path.{sym, _∙_}
 use Rattle.search.specs.Ready.{unless-none, unless-one}
 use borrow.Author.Needs.{needs}
@@ -19,8 +19,9 @@ same-length c = search needs
 
 returns-2 : tie.Need-returns-2
 returns-2 c =
-    unless-one _ _ _ _ _ _ _ (sym (c .before .before .before .before .before .is-extendable .ensures) ∙ c .before .before .before .before .if1 .left)
-    (c .before .before .push .ensures _ (c .before .before .before .before .before .before .before .before .pre .below))
+    let tested = c .before .before .before .before .before in
+    unless-one _ _ _ _ _ _ _ (sym (tested .is-extendable .ensures) ∙ c .before .before .before .before .if1 .left)
+    (c .before .before .push .ensures _ (tested .before .before .before .pre .below))
 
 pub leaf-spec : {M : Type 1} → statement M
 leaf-spec =

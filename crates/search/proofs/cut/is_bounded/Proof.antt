@@ -1,27 +1,20 @@
--- `search::cut::is_bounded` meets its contract: a bound below the floor leaves nothing to add.
-use Prim.Native.Nat.{ℕ}
+-- A second bound below the floor leaves nothing to add; where the bound is switched off nothing is said.
 use native.Mathlib.Omega.{arith}
-use mathlib.Core.Path.{sym, ap, subst}
+use mathlib.Core.Path.{sym}
 use borrow.Author.Tests.{ltb-true}
-use denote.Ref.{now}
-use Rattle.sets.specs.Words.{mask, masks}
 use Rattle.sets.specs.RangeLaws.{true-is-not-false}
-use Rattle.bounds.specs.Bound.{secondBound}
-use Rattle.bounds.specs.BoundSetting.{Boundable}
 use Rattle.search.specs.FoundLaws.{bounded-empty}
 use Rattle.search.proofs.cut.is_bounded.Statement.{statement}
 use Rattle.search.proofs.cut.is_bounded.Tie as tie
 
 with-requires : tie.Need-with-requires
-with-requires c κs = omega (arith, c .before .before .pre .vertex, c .before .before .pre .supported .inside .most)
+with-requires c κs = let bound = c .before .before .pre in omega (arith, bound .vertex, bound .supported .inside .most)
 
 second-bound-requires : tie.Need-second-bound-requires
-second-bound-requires c κs = subst (λ (x : ℕ). Boundable (masks (now (c .before .before .before .args .rows))) (c .before .before .before .args .k) (mask (c .before .before .before .args .s)) x (c .before .before .before .args .v)) (sym (c .with .ensures)) (c .before .before .before .pre)
+second-bound-requires c κs = rw (c .with .ensures) (c .before .before .before .pre)
 
 returns : tie.Need-returns
-returns c = λ e.
-    bounded-empty _ _ _ _ _ (c .before .before .before .before .pre)
-    (omega (arith, ltb-true (c .second-bound .result) (c .before .before .before .before .args .q) e, c .second-bound .ensures, ap (λ (x : ℕ). secondBound (masks (now (c .before .before .before .before .args .rows))) (c .before .before .before .before .args .k) (mask (c .before .before .before .before .args .s)) x (c .before .before .before .before .args .v)) (c .before .with .ensures)))
+returns c = λ e. bounded-empty (c .before .before .before .before .pre) (c .before .with .ensures) (c .second-bound .ensures) (ltb-true _ _ e)
 
 returns-2 : tie.Need-returns-2
 returns-2 c = λ e. absurd (true-is-not-false (sym e))

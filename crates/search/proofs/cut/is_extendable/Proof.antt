@@ -1,4 +1,4 @@
--- `search::cut::is_extendable` meets its contract.
+-- The test is that of `judging`, and where it is switched off nothing is said.
 use mathlib.Core.Path.{sym, _∙_}
 use Rattle.sets.specs.RangeLaws.{true-holds, true-is-not-false}
 use borrow.Author.Needs.{needs}

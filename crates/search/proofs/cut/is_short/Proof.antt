@@ -1,4 +1,4 @@
--- `search::cut::is_short` meets its contract: the size decides first, and then the partition bound where it is asked.
+-- The size decides first, and then the partition bound where it is asked.
 use native.Mathlib.Omega.{arith}
 use mathlib.Core.Path.{sym}
 use Rattle.sets.specs.RangeLaws.{true-is-not-false}

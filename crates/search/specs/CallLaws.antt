@@ -1,0 +1,111 @@
+-- Laws of the call that lists: from the outcome of the checks and from what the search added to what the call answers and leaves in the slots.
+use Prim.Native.Nat.{ℕ, _^_, _≤_, _<_}
+use native.Mathlib.Omega.{arith}
+use mathlib.Core.Path.{_≡_, sym, ap, _∙_}
+use mathlib.Core.List.{List, [], _∷_, _++_}
+use lib.ListN.{length, take, drop, replicate}
+use borrow.Author.Tests.{le-leb, lt-leb, lt-ltb, le-ltb}
+use Rattle.judging.specs.Request.{Request}
+use Rattle.judging.specs.Refusal.{refused, answered, firstOf}
+use Rattle.judging.specs.Calls.{refusal, numberOf, valueOf, passed, requestCheck}
+use Rattle.judging.specs.RefusalLaws.{first-append, first-holds, first-skips, first-refused, first-passed}
+use Rattle.judging.specs.RefusalLaws.{graph-sized, graph-checked, slack-graph, slack-accepted, request-slack, floor-accepted}
+use Rattle.judging.specs.declared.Refusal.{Refusal}
+use Rattle.judging.specs.declared.Refusal.the-variants.{Slots}
+use Rattle.lists.specs.Listing.{listed, listing}
+use Rattle.lists.specs.ListingLaws.{listing-counts, listing-placed, listing-sorted}
+use Rattle.lists.specs.Order.{Sorts}
+use Rattle.lists.specs.Placing.{mostCount, Adds}
+use Rattle.lists.specs.PlacingLaws.{adds-all}
+use Rattle.search.specs.Start.{Accepted}
+use Rattle.search.specs.Calls.{slotsCause, listReply, placed, slotsAfter, Lists}
+use Rattle.search.specs.declared.ListFound.the-variants.{Listed, Refused}
+
+-- ---- slots that are given a list
+
+placed-fits : (l slots : List ℕ) → length l ≤ length slots → placed l slots ≡ l ++ drop (length l) slots
+unfolding placed
+placed-fits l slots h = rw (le-leb (length l) (length slots) h)
+
+placed-short : (l slots : List ℕ) → length slots < length l → placed l slots ≡ replicate (length slots) 0
+unfolding placed
+placed-short l slots h = rw (lt-leb (length l) (length slots) h)
+
+module _ (g : List ℕ) (ask : Request) where
+  pub accepted-holds : firstOf (requestCheck g ask) passed ≡ passed → Accepted g ask
+  accepted-holds e =
+      let s = request-slack g ask e in
+      let f = floor-accepted g ask e in
+      let h = slack-accepted g (ask .slack) s in
+      record {
+        sized = graph-sized g (slack-graph g (ask .slack) s);
+        valid = graph-checked g (slack-graph g (ask .slack) s);
+        slack = h;
+        floor = (omega (arith, f .0, h .0), f .1);
+      }
+
+  -- a request that is refused leaves the slots
+  pub list-refused : (f : Refusal) (slots : List ℕ) → firstOf (requestCheck g ask) passed ≡ refusal f → Lists g ask slots slots (Refused f)
+  unfolding listReply slotsAfter
+  list-refused f slots e =
+      record {
+        reply = sym (first-append (requestCheck g ask) _ _ ∙ first-refused (requestCheck g ask) (numberOf f) (valueOf f) _ e);
+        slots = rw e;
+      }
+
+  -- ---- a request that passes
+
+  module _ (e : firstOf (requestCheck g ask) passed ≡ passed) where
+    -- the slots are looked at next
+    passed-reply : (room : ℕ) → listReply g ask room ≡ firstOf (slotsCause room (length (listing g ask)) ∷ []) (answered (length (listing g ask)) tt)
+    unfolding listReply
+    passed-reply room = first-append (requestCheck g ask) _ _ ∙ first-passed (requestCheck g ask) _ e
+
+    -- and then they are given the list
+    passed-slots : (slots : List ℕ) → slotsAfter g ask slots ≡ placed (listing g ask) slots
+    unfolding slotsAfter
+    passed-slots slots = rw e
+
+    pub reply-fits : (room : ℕ) → length (listing g ask) ≤ room → listReply g ask room ≡ answered (length (listing g ask)) tt
+    unfolding slotsCause firstOf
+    reply-fits room l = passed-reply room ∙ first-skips (slotsCause room _) [] _ (le-ltb room _ l)
+
+    pub reply-short : (room : ℕ) → room < length (listing g ask) → listReply g ask room ≡ refused 6 (length (listing g ask))
+    unfolding slotsCause
+    reply-short room l = passed-reply room ∙ first-holds (slotsCause room _) [] _ (lt-ltb room _ l)
+
+    pub slots-fits : (slots : List ℕ) → length (listing g ask) ≤ length slots
+        → slotsAfter g ask slots ≡ listing g ask ++ drop (length (listing g ask)) slots
+    slots-fits slots l = passed-slots slots ∙ placed-fits (listing g ask) slots l
+
+    pub slots-short : (slots : List ℕ) → length slots < length (listing g ask) → slotsAfter g ask slots ≡ replicate (length slots) 0
+    slots-short slots l = passed-slots slots ∙ placed-short (listing g ask) slots l
+
+    module _ {before after : List ℕ} {m : ℕ} (x : Adds (2 ^ length g) (listed g ask) before 0 after m) where
+      few : length (listing g ask) ≤ mostCount
+      few = let a = accepted-holds e in listing-counts g ask (omega (arith, a .slack, a .floor)) (a .sized .most)
+
+      counted : m ≡ length (listing g ask)
+      counted = listing-placed g ask before after m few x .0
+
+      pub list-length : length after ≡ length before
+      list-length = adds-all (2 ^ length g) (listed g ask) before after m x .long
+
+      -- what was added, put in order, is the list
+      pub list-fits : {part exit : List ℕ} → m ≤ length before → Sorts (take m after) part → exit ≡ part ++ drop m after
+          → Lists g ask before exit (Listed m)
+      list-fits {part} l h z =
+          record {
+            reply = ap (λ (n : ℕ). answered n tt) counted ∙ sym (reply-fits (length before) (omega (arith, counted)));
+            slots =
+                z ∙ listing-sorted g ask before after part m few x l h ∙ ap (λ (n : ℕ). listing g ask ++ drop n before) counted
+                ∙ sym (slots-fits before (omega (arith, counted)));
+          }
+
+      -- there are more plexes than slots: these are cleared
+      pub list-short : {exit : List ℕ} → length before < m → exit ≡ replicate (length after) 0 → Lists g ask before exit (Refused (Slots m))
+      list-short l z =
+          record {
+            reply = ap (refused 6) counted ∙ sym (reply-short (length before) (omega (arith, counted)));
+            slots = z ∙ ap (λ (n : ℕ). replicate n 0) list-length ∙ sym (slots-short before (omega (arith, counted)));
+          }

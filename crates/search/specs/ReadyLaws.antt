@@ -1,0 +1,178 @@
+-- Laws of a step of the search: what it may ask of its callees, and what it has added where it is cut, at a leaf, and after both branches.
+use Prim.Native.Nat.{ℕ, _^_, _≤_, _<_}
+use native.Mathlib.Omega.{arith}
+use mathlib.Core.Path.{_≡_}
+use mathlib.Core.Bool.{not}
+use mathlib.Core.List.{List}
+use lib.Dec.{T, T-not, not-T, eqb, eqb→eq, eqb-refl}
+use lib.Bits.{or-lt}
+use lib.ListN.{length}
+use Rattle.sets.specs.Set.{bit, In, size, with, without, minus}
+use Rattle.sets.specs.Graph.{row}
+use Rattle.sets.specs.RangeLaws.{and-left, and-right, both, same-test}
+use Rattle.sets.specs.BitLaws.{bit-or}
+use Rattle.sets.specs.PointLaws.{bit-with, single-out, by-bit}
+use Rattle.sets.specs.SubsetLaws.{sub-number, in-of-sub, in-below, minus-sub, with-below}
+use Rattle.sets.specs.SizeLaws.{minus-below}
+use Rattle.sets.specs.WalkLaws.{without-less}
+use Rattle.judging.specs.Request.{Request}
+use Rattle.judging.specs.Graph.{missing}
+use Rattle.judging.specs.Plex.{Plex, extendable}
+use Rattle.judging.specs.Setting.{Inside}
+use Rattle.bounds.specs.BoundSetting.{Boundable}
+use Rattle.lists.specs.Placing.{union, Adds}
+use Rattle.lists.specs.PlacingLaws.{adds-none, adds-same, adds-both}
+use Rattle.search.specs.Found.{found, Empty, Compatible, Short}
+use Rattle.search.specs.FoundLaws.{found-holds, found-test, cut-none, short-empty, stuck-empty, extendable-empty, leaf-found, leaf-only}
+use Rattle.search.specs.FoundLaws.{branches, branches-apart, branch-without}
+use Rattle.search.specs.Partition.{Between}
+use Rattle.search.specs.TrimLaws.{Joinable, Beside, trimmed-compatible}
+use Rattle.search.specs.SiftLaws.{Siftable}
+use Rattle.search.specs.Ready.{Ready, Whole, Split, unless}
+
+-- ---- what the callees ask of a candidate v
+
+module _ {g t : List ℕ} {ask : Request} {s c : ℕ} (h : Ready g t ask s c) (v : ℕ) (i : In v c) where
+  pub ready-vertex : v < length g
+  ready-vertex = in-below (length g) c v (h .fine .candidates) i
+
+  pub ready-joinable : Joinable g t s c v
+  ready-joinable =
+      record {
+        most = h .settled .sized .most;
+        long = h .settled .long;
+        valid = h .settled .valid;
+        below = h .fine .below;
+        candidates = h .fine .candidates;
+        apart = h .fine .apart;
+        member = i;
+      }
+
+  pub ready-siftable : {d : ℕ} → Beside g ask s c v d → Siftable g ask s c v d
+  ready-siftable b =
+      record {
+        some = h .settled .sized .some;
+        most = h .settled .sized .most;
+        valid = h .settled .valid;
+        slack = omega (arith, h .settled .slack .1);
+        floor = h .settled .floor;
+        below = h .fine .below;
+        candidates = h .fine .candidates;
+        member = i;
+        beside = b;
+      }
+
+-- ---- s and c together
+
+module _ {g t : List ℕ} {ask : Request} {s c a : ℕ} (h : Whole g t ask s c a) where
+  whole-below : a < 2 ^ length g
+  whole-below = rw (h .whole) (or-lt (length g) s c (h .ready .fine .below) (h .ready .fine .candidates))
+
+  pub whole-inside : Inside g a
+  whole-inside = let sized = h .ready .settled .sized in record { some = sized .some; most = sized .most; below = whole-below }
+
+  pub whole-between : Between g s a
+  whole-between = record { below = whole-below; part = rw (h .whole) (λ v. omega (arith, bit-or s c v)) }
+
+  -- cuts: nothing is added
+  module _ {slots : List ℕ} {count : ℕ} where
+    cut-adds : Empty g ask s c → Adds (2 ^ length g) (found g ask s c) slots count slots count
+    cut-adds none = adds-none (2 ^ length g) (found g ask s c) slots count (cut-none g ask s c none)
+
+    pub short-adds : Short g (ask .slack) (ask .floor) s a → Adds (2 ^ length g) (found g ask s c) slots count slots count
+    short-adds l = cut-adds (short-empty (h .whole) l)
+
+    pub extendable-adds : T (extendable g (ask .slack) a) → Adds (2 ^ length g) (found g ask s c) slots count slots count
+    extendable-adds l = cut-adds (extendable-empty (h .whole) (h .ready .settled .valid) l)
+
+    pub stuck-adds : (w : ℕ) → In w a → ask .slack < missing g a w → (bit c w ≡ 0) × (minus c (row g w) ≡ 0)
+        → Adds (2 ^ length g) (found g ask s c) slots count slots count
+    stuck-adds w i many z = cut-adds (stuck-empty (h .whole) w i (z .0) many (z .1))
+
+  -- a leaf: a is the one set that it may list
+  leaf-same : Plex g (ask .slack) a → ask .floor ≤ size a → (y : ℕ) → y < 2 ^ length g → unless (extendable g (ask .slack) a) a y ≡ found g ask s c y
+  leaf-same p l y ly =
+      let more = extendable g (ask .slack) a in
+      let ok = h .ready .settled .valid in
+      same-test (unless more a y) (found g ask s c y)
+      (λ z. found-test g ask s c y (rw (eqb→eq y a (and-right (not more) (eqb y a) z))
+      (leaf-found (h .whole) whole-below p ok (T-not more (and-left (not more) (eqb y a) z)) l)))
+      (λ z. let f = found-holds g ask s c y ly z in both (not more) (eqb y a)
+      (not-T more (λ w. extendable-empty (h .whole) ok w y f)) (rw (leaf-only (h .whole) whole-below p f) (eqb-refl a)))
+
+  pub leaf-adds : {before after : List ℕ} {count r : ℕ} → Plex g (ask .slack) a → ask .floor ≤ size a
+      → Adds (2 ^ length g) (unless (extendable g (ask .slack) a) a) before count after r → Adds (2 ^ length g) (found g ask s c) before count after r
+  leaf-adds p l x = adds-same (2 ^ length g) (unless (extendable g (ask .slack) a) a) (found g ask s c) _ _ _ _ (leaf-same p l) x
+
+-- ---- the two branches
+
+module _ {g t : List ℕ} {ask : Request} {s c v r rest : ℕ} (h : Split g t ask s c v r rest) where
+  pub split-vertex : v < length g
+  split-vertex = ready-vertex (h .ready) v (h .member)
+
+  with-compatible : Compatible g (ask .slack) (with s v) r
+  with-compatible =
+      let b = h .beside in
+      trimmed-compatible g (ask .slack) s c v r (h .ready .settled .valid) (h .ready .fine) (h .member) (b .kept .part) (b .blocked) (b .cheap)
+
+  pub with-boundable : Boundable g (ask .slack) s (with r v) v
+  with-boundable =
+      let settled = h .ready .settled in
+      let fine = h .ready .fine in
+      record {
+        supported =
+            record {
+              inside = record { some = settled .sized .some; most = settled .sized .most; below = fine .below };
+              slack = settled .slack .1;
+              plex = fine .plexed;
+            };
+        valid = settled .valid;
+        some = settled .slack .0;
+        vertex = split-vertex;
+        below = with-below (length g) r v (with-compatible .candidates) split-vertex;
+        apart = λ u j. by-bit r u
+            (λ i. omega (arith, with-compatible .apart u i, bit-with s v u))
+            (λ o. omega (arith, bit-with r v u, single-out s v u (fine .apart v (h .member))));
+      }
+
+  pub with-falls : r < c
+  with-falls = omega (arith, sub-number r (without c v) (h .beside .kept .part), without-less c v (h .member))
+
+  pub without-falls : rest < c
+  without-falls = rw (h .others) (without-less c v (h .member))
+
+  pub without-ready : Ready g t ask s rest
+  without-ready =
+      let fine = h .ready .fine in
+      rw (h .others)
+      (record {
+        settled = h .ready .settled;
+        fine =
+            record {
+              below = fine .below;
+              candidates = minus-below (length g) c (2 ^ v) (fine .candidates);
+              apart = λ w j. fine .apart w (in-of-sub (without c v) c w (minus-sub c (2 ^ v)) j);
+              plexed = fine .plexed;
+              joined = λ w j. fine .joined w (in-of-sub (without c v) c w (minus-sub c (2 ^ v)) j);
+            };
+      })
+
+  module _ {before between : List ℕ} {count n : ℕ} (x : Adds (2 ^ length g) (found g ask s rest) before count between n) where
+    -- where the branch with v is cut, the other has added all
+    pub without-adds : Empty g ask (with s v) r → Adds (2 ^ length g) (found g ask s c) before count between n
+    without-adds cut =
+        adds-same (2 ^ length g) (found g ask s (without c v)) (found g ask s c) before between count n
+        (branch-without (h .member) (h .beside) cut) (rw (h .others) at x)
+
+    module _ {j : ℕ} (z : j ≡ with s v) where
+      pub branches-adds : {after : List ℕ} {o : ℕ} → Adds (2 ^ length g) (found g ask j r) between n after o
+          → Adds (2 ^ length g) (found g ask s c) before count after o
+      branches-adds {after} {o} y =
+          let out = found g ask s (without c v) in
+          let beside = found g ask (with s v) r in
+          adds-same (2 ^ length g) (union out beside) (found g ask s c) before after count o (branches (h .member) (h .beside))
+          (adds-both (2 ^ length g) out beside before between after count n o
+          (branches-apart (h .member) (h .beside) (h .ready .fine .apart v (h .member))) (rw (h .others) at x) (rw z at y))
+
+  pub with-ready : {j : ℕ} → j ≡ with s v → Ready g t ask j r
+  with-ready z = rw z (record { settled = h .ready .settled; fine = with-compatible })
