@@ -3,7 +3,6 @@
 --   Common g s m                    m are the vertices that are adjacent to every member of s
 --   Covering g c m r                r are candidates of c, among them all that some vertex of m, the pivot, is not adjacent to
 --   touched g ask s b t x           x is listed, holds s, has no member outside s, b and t, and has one in t
---   AddsFound g ask s c before ..   the step from (before, count) to (after, r) adds what is found with s and the candidates c
 --   Taking g ask have s c m         what a call relies on: the slack is 1, s is a clique of `have` members, m are its common neighbours, and c are
 --                                   candidates among them
 --   Sweeping g ask have s b m t     the same of the candidates b and t, which are apart
@@ -20,7 +19,6 @@ use Rattle.sets.specs.Words.{width}
 use Rattle.judging.specs.Request.{Request}
 use Rattle.judging.specs.Graph.{Valid}
 use Rattle.judging.specs.Plex.{Plex}
-use Rattle.lists.specs.Placing.{Adds}
 use Rattle.search.specs.Found.{found}
 
 pub record Common (g : List ℕ) (s m : ℕ) : Type 0 where
@@ -36,9 +34,6 @@ pub record Covering (g : List ℕ) (c m r : ℕ) : Type 0 where
 
 unfoldable pub touched : List ℕ → Request → ℕ → ℕ → ℕ → ℕ → Bool
 touched g ask s b t x = found g ask s (bitOr b t) x && not (eqb (bitAnd x t) 0)
-
-abbrev pub AddsFound : List ℕ → Request → ℕ → ℕ → List ℕ → ℕ → List ℕ → ℕ → Type 0
-AddsFound g ask s c before count after r = Adds (2 ^ length g) (found g ask s c) before count after r
 
 pub record Taking (g : List ℕ) (ask : Request) (have s c m : ℕ) : Type 0 where
   pub most : length g ≤ width

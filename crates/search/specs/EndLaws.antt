@@ -22,10 +22,10 @@ use Rattle.judging.specs.Plex.{Plex, Maximal}
 use Rattle.judging.specs.PlexLaws.{maximal-by-one}
 use Rattle.lists.specs.Placing.{Adds}
 use Rattle.lists.specs.PlacingLaws.{adds-same}
-use Rattle.search.specs.Found.{found}
+use Rattle.search.specs.Found.{found, AddsFound}
 use Rattle.search.specs.FoundLaws.{found-holds, found-test}
 use Rattle.search.specs.Ready.{unless}
-use Rattle.search.specs.Cliques.{Covering, AddsFound, Taking, Sweeping}
+use Rattle.search.specs.Cliques.{Covering, Taking, Sweeping}
 use Rattle.search.specs.CliqueLaws.{none-out, none-by, clique-adjacent, cover-all}
 use Rattle.search.specs.TakeLaws.{take-pickable, take-vertex, cover-sweeping, cover-adds}
 use Rattle.search.specs.SweepLaws.{Joined, Step, step-taking, Swept, swept-none, swept-more, swept-all}

@@ -3,6 +3,7 @@
 --   found g ask s c x     x is listed for the request ask, holds s and has no member outside s and c
 --   Found                 the same as a statement
 --   Empty g ask s c       nothing is to be added: the branch is cut
+--   AddsFound g ask s c before count after r   the step from (before, count) to (after, r) adds what is found with s and the candidates c
 --   Compatible g k s c    s is a plex, apart from c, and stays one with each candidate of c
 --   Short g k q s a       every plex between s and a has fewer than q members
 --   Near g ask t          a listed plex that holds v has no member outside row v of the table t, but v
@@ -18,6 +19,7 @@ use Rattle.sets.specs.Graph.{row}
 use Rattle.judging.specs.Request.{Request}
 use Rattle.judging.specs.Plex.{Plex}
 use Rattle.lists.specs.Listing.{listed, Listed}
+use Rattle.lists.specs.Placing.{Adds}
 
 unfoldable pub found : List ℕ → Request → ℕ → ℕ → ℕ → Bool
 found g ask s c x = subset s x && subset x (bitOr s c) && listed g ask x
@@ -29,6 +31,9 @@ pub record Found (g : List ℕ) (ask : Request) (s c x : ℕ) : Type 0 where
 
 abbrev pub Empty : List ℕ → Request → ℕ → ℕ → Type 0
 Empty g ask s c = (x : ℕ) → Found g ask s c x → ⊥
+
+abbrev pub AddsFound : List ℕ → Request → ℕ → ℕ → List ℕ → ℕ → List ℕ → ℕ → Type 0
+AddsFound g ask s c before count after r = Adds (2 ^ length g) (found g ask s c) before count after r
 
 pub record Compatible (g : List ℕ) (k s c : ℕ) : Type 0 where
   pub below : s < 2 ^ length g

@@ -27,9 +27,9 @@ use Rattle.judging.specs.Request.{Request}
 use Rattle.judging.specs.Plex.{Plex}
 use Rattle.lists.specs.Placing.{union, Apart, Adds}
 use Rattle.lists.specs.PlacingLaws.{adds-none, adds-same, adds-both}
-use Rattle.search.specs.Found.{found, Found}
+use Rattle.search.specs.Found.{found, Found, AddsFound}
 use Rattle.search.specs.FoundLaws.{found-holds, found-test}
-use Rattle.search.specs.Cliques.{touched, AddsFound, Taking, Sweeping}
+use Rattle.search.specs.Cliques.{touched, Taking, Sweeping}
 use Rattle.search.specs.CliqueLaws.{none-out, none-by, clique-near, common-apart, common-vertex, common-out, common-clique, common-with}
 use Rattle.search.specs.CliqueLaws.{touched-holds, touched-test}
 

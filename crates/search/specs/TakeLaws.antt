@@ -14,10 +14,10 @@ use Rattle.sets.specs.SizeLaws.{size-mono, size-or}
 use Rattle.judging.specs.Request.{Request}
 use Rattle.lists.specs.Placing.{Adds}
 use Rattle.lists.specs.PlacingLaws.{adds-none, adds-same}
-use Rattle.search.specs.Found.{found, Found}
+use Rattle.search.specs.Found.{found, Found, AddsFound}
 use Rattle.search.specs.FoundLaws.{cut-none}
 use Rattle.search.specs.Choice.{Pickable}
-use Rattle.search.specs.Cliques.{Covering, touched, AddsFound, Taking, Sweeping}
+use Rattle.search.specs.Cliques.{Covering, touched, Taking, Sweeping}
 use Rattle.search.specs.CliqueLaws.{common-vertex, pivot-hits, parts-whole, touched-all}
 
 module _ {g : List ℕ} {ask : Request} {have s c m : ℕ} (h : Taking g ask have s c m) where

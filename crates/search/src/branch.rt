@@ -4,7 +4,7 @@ ghost use lib.ListN.{length};
 ghost use Rattle.sets.specs.Words.{mask, masks};
 ghost use Rattle.judging.specs.Request.{request};
 ghost use Rattle.judging.specs.Plex.{extendable};
-ghost use Rattle.search.specs.Found.{found};
+ghost use Rattle.search.specs.Found.{AddsFound};
 ghost use Rattle.lists.specs.Placing.{Adds};
 ghost use Rattle.search.specs.Ready.{Ready, LeafReady, unless};
 use sets::Set;
@@ -38,7 +38,7 @@ pub fn branch(
     count: usize,
 ) -> usize
     requires { ⌜ Ready (masks (now rows)) (masks (now near)) (request k q) (mask s) (mask c) ⌝ }
-    ensures { λ r. ⌜ Adds (2 ^ length (masks (now (rows .entry)))) (found (masks (now (rows .entry))) (request k q) (mask s) (mask c))
+    ensures { λ r. ⌜ AddsFound (masks (now (rows .entry))) (request k q) (mask s) (mask c)
         (masks (now (slots .entry))) count (masks (now (slots .exit))) r ⌝ }
 {
     let a = sets::join(s, c);

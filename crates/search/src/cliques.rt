@@ -11,7 +11,8 @@ ghost use Rattle.judging.specs.Request.{request};
 ghost use Rattle.lists.specs.Placing.{Adds};
 ghost use Rattle.judging.specs.Setting.{Inside};
 ghost use Rattle.search.specs.Ready.{unless};
-ghost use Rattle.search.specs.Cliques.{Common, Covering, touched, AddsFound, Taking, Sweeping};
+ghost use Rattle.search.specs.Cliques.{Common, Covering, touched, Taking, Sweeping};
+ghost use Rattle.search.specs.Found.{AddsFound};
 ghost use Rattle.search.specs.Choice.{Pickable};
 use sets::Set;
 

@@ -5,7 +5,7 @@ ghost use Rattle.sets.specs.Words.{mask, masks};
 ghost use Rattle.judging.specs.Request.{request, asked};
 ghost use Rattle.lists.specs.Listing.{listed};
 ghost use Rattle.lists.specs.Placing.{Adds};
-ghost use Rattle.search.specs.Found.{found};
+ghost use Rattle.search.specs.Found.{AddsFound};
 ghost use Rattle.search.specs.Start.{Accepted, Candidates, Startable};
 ghost use Rattle.search.specs.Calls.{Lists};
 
@@ -73,7 +73,7 @@ fn enumerate_from(
     count: usize,
 ) -> usize
     requires { ⌜ Startable (masks (now rows)) (request k q) (mask all) (mask s) (mask c) ⌝ }
-    ensures { λ r. ⌜ Adds (2 ^ length (masks (now (rows .entry)))) (found (masks (now (rows .entry))) (request k q) (mask s) (mask c))
+    ensures { λ r. ⌜ AddsFound (masks (now (rows .entry))) (request k q) (mask s) (mask c)
         (masks (now (slots .entry))) count (masks (now (slots .exit))) r ⌝ }
 {
     if cuts.pivot {
