@@ -2,6 +2,7 @@
 --
 --   costly g k s w   w misses k or more of s
 use Prim.Native.Nat.{ℕ, _^_, _≤_, _<_}
+use native.Mathlib.Nat.{le-trans}
 use native.Mathlib.Omega.{arith}
 use native.Mathlib.Decide.{decLt}
 use mathlib.Core.Path.{_≡_, refl, ap}
@@ -56,11 +57,8 @@ module _ {g : List ℕ} {ask : Request} {s : ℕ} where
   module _ {c x : ℕ} (f : Found g ask s c x) (w : ℕ) (e : In w x) (out : bit s w ≡ 0) where
     misses : (u : ℕ) → In u x → missing g (with s w) u ≤ ask .slack
     misses u i =
-        omega (
-          arith,
-          missing-mono g (with s w) x u (with-sub s w x (f .lower) e),
-          f .listed .top .0 u (in-below (length g) x u (f .listed .below) i) i,
-        )
+        let lu = in-below (length g) x u (f .listed .below) i in
+        le-trans (missing-mono g (with s w) x u (with-sub s w x (f .lower) e)) (f .listed .top .0 u lu i)
 
     saturated-adjacent : (u : ℕ) → In u s → ask .slack ≤ missing g s u → In w (row g u)
     saturated-adjacent u i m = omega (arith, missing-with g s w u out, bit-le (row g u) w, misses u (in-of-sub s x u (f .lower) i))
@@ -75,11 +73,11 @@ costly g k s w = leb k (missing g s w)
 
 module _ {g : List ℕ} {s c v : ℕ} (h : Trimmable g s c v) where
   -- the candidates are narrowed by the members that v is not adjacent to
-  pub blocked-none : {k : ℕ} → Narrowed g k s (minus s (row g v)) c (minus s (row g v)) c
-  blocked-none = narrowed-none (minus-below (length g) s (row g v) (h .below))
+  pub drops-blocked-none : {k : ℕ} → Narrowed g k s (minus s (row g v)) c (minus s (row g v)) c
+  drops-blocked-none = narrowed-none (minus-below (length g) s (row g v) (h .below))
 
-  pub blocked-all : {k left r : ℕ} → left ≡ 0 → Narrowed g k s (minus s (row g v)) c left r → DropsBlocked g k s v c r
-  blocked-all z w =
+  pub drops-blocked-all : {k left r : ℕ} → left ≡ 0 → Narrowed g k s (minus s (row g v)) c left r → DropsBlocked g k s v c r
+  drops-blocked-all z w =
       record {
         kept = λ ask e.
             record {
@@ -92,11 +90,11 @@ module _ {g : List ℕ} {s c v : ℕ} (h : Trimmable g s c v) where
       }
 
   -- those candidates are dropped that v is not adjacent to and that miss too much
-  pub missing-none : (k : ℕ) → Dropping (length g) (costly g k s) c (minus c (row g v)) (minus c (row g v)) c
-  missing-none k = dropping-none (minus-below (length g) c (row g v) (h .candidates))
+  pub drops-missing-none : (k : ℕ) → Dropping (length g) (costly g k s) c (minus c (row g v)) (minus c (row g v)) c
+  drops-missing-none k = dropping-none (minus-below (length g) c (row g v) (h .candidates))
 
-  pub missing-all : (k : ℕ) {left r : ℕ} → left ≡ 0 → Dropping (length g) (costly g k s) c (minus c (row g v)) left r → DropsMissing g k s v c r
-  missing-all k {r = r} z w =
+  pub drops-missing-all : (k : ℕ) {left r : ℕ} → left ≡ 0 → Dropping (length g) (costly g k s) c (minus c (row g v)) left r → DropsMissing g k s v c r
+  drops-missing-all k {r = r} z w =
       record {
         kept = λ ask e.
             record {
@@ -190,20 +188,10 @@ module _ (g : List ℕ) (k s c v r : ℕ) (ok : Valid g) (fine : Compatible g k 
       -- where v is adjacent to u, u misses no more of s and v than of s, to which w could be added
       few-adjacent : bit (row g u) w ≡ 0 → In u (row g v) → missing g (with s v) u < k
       few-adjacent far q =
-          let inside : In u (with s w) = omega (
-            arith,
-            bit-with (with s v) w u,
-            bit-with s v u,
-            bit-with s w u,
-            single-out (row g v) v u (ok .loopless v lv),
-          ) in
-          omega (
-            arith,
-            missing-with g s v u (fine .apart v e),
-            ok .mutually v u lv lu,
-            missing-with g s w u (fine .apart w inc),
-            fine .joined w inc u lu inside,
-          )
+          let inside : In u (with s w) =
+          omega (arith, bit-with (with s v) w u, bit-with s v u, bit-with s w u, single-out (row g v) v u (ok .loopless v lv)) in
+          let full = missing-with g s w u (fine .apart w inc) in
+          omega (arith, missing-with g s v u (fine .apart v e), ok .mutually v u lv lu, full, fine .joined w inc u lu inside)
 
       -- where it is not, u has room for w because it is not saturated, or costs less than k as what is left does
       few-far : bit (row g u) w ≡ 0 → bit (row g v) u ≡ 0 → missing g (with s v) u < k
@@ -217,17 +205,12 @@ module _ (g : List ℕ) (k s c v r : ℕ) (ok : Valid g) (fine : Compatible g k 
 
       still-plex : missing g (with (with s v) w) u ≤ k
       still-plex =
-          by-bit (row g u) w (λ near. omega (arith, missing-with g (with s v) w u (apart-left w i), fine .joined v e u lu (inside near)))
-          (λ far. omega (arith, missing-with g (with s v) w u (apart-left w i), by-bit (row g v) u (few-adjacent far) (few-far far)))
+          let more = missing-with g (with s v) w u (apart-left w i) in
+          by-bit (row g u) w (λ near. omega (arith, more, fine .joined v e u lu (inside near)))
+          (λ far. omega (arith, more, by-bit (row g v) u (few-adjacent far) (few-far far)))
         where
           inside : In w (row g u) → In u (with s v)
-          inside near = omega (
-            arith,
-            bit-with (with s v) w u,
-            ok .mutually u w lu lw,
-            single-out (row g w) w u (ok .loopless w lw),
-            bit-le (with s v) u,
-          )
+          inside near = omega (arith, bit-with (with s v) w u, ok .mutually u w lu lw, single-out (row g w) w u (ok .loopless w lw), bit-le (with s v) u)
 
     pub trimmed-compatible : Compatible g k (with s v) r
     trimmed-compatible =

@@ -54,15 +54,4 @@ returns-2 c = extendable-by-none _ _ _ (c .before .before .loop .inv) (walk-over
 pub is-extendable-spec : {M : Type 1} → statement M
 is-extendable-spec =
     tie.close
-    (tie.spec
-    Inv-loop
-    μ-loop
-    loop-holds
-    is-empty-requires
-    lowest-requires
-    missing-requires
-    returns
-    rest-requires
-    loop-less
-    loop-again
-    returns-2)
+    (tie.spec Inv-loop μ-loop loop-holds is-empty-requires lowest-requires missing-requires returns rest-requires loop-less loop-again returns-2)

@@ -57,15 +57,4 @@ returns-2 c =
 pub is-plex-spec : {M : Type 1} → statement M
 is-plex-spec =
     tie.close
-    (tie.spec
-    Inv-loop
-    μ-loop
-    loop-holds
-    is-empty-requires
-    lowest-requires
-    missing-requires
-    returns
-    rest-requires
-    loop-less
-    loop-again
-    returns-2)
+    (tie.spec Inv-loop μ-loop loop-holds is-empty-requires lowest-requires missing-requires returns rest-requires loop-less loop-again returns-2)

@@ -1,4 +1,5 @@
 -- The vertices outside s are narrowed by the row of each member that misses k or more: what is open after all members is what no member blocks.
+use Prim.Native.Nat.{_<_}
 use native.Mathlib.Omega.{arith}
 use mathlib.Core.Path.{ap, _∙_}
 use lib.Bits.{bitAnd}
@@ -21,6 +22,10 @@ abbrev μ-loop : tie.MeasureT-loop
 -- the loop's record at this turn
 abbrev turn : tie.After-lowest Inv-loop μ-loop → tie.At-loop Inv-loop μ-loop
 turn c = c .before .before .before
+
+-- what is to come falls
+falls : (c : tie.After-rest Inv-loop μ-loop) → mask (c .rest .result) < mask (turn (c .before) .loop .left)
+falls c = walk-falls _ _ _ (c .before .lowest .ensures) (c .rest .ensures)
 
 count-requires : tie.Need-count-requires Inv-loop μ-loop
 count-requires c κs = tt
@@ -57,9 +62,7 @@ meet-requires : tie.Need-meet-requires Inv-loop μ-loop
 meet-requires c κs = tt
 
 loop-less : tie.Need-loop-less Inv-loop μ-loop
-loop-less c =
-    let rest = c .before .before .before .before in
-    walk-falls _ _ _ (rest .before .lowest .ensures) (rest .rest .ensures)
+loop-less c = falls (c .before .before .before .before)
 
 loop-again : tie.Need-loop-again Inv-loop μ-loop
 loop-again c =
@@ -69,9 +72,7 @@ loop-again c =
     (c .meet .ensures ∙ ap (bitAnd (mask _)) (c .before .get .ensures)) (omega arith)
 
 loop-less-2 : tie.Need-loop-less-2 Inv-loop μ-loop
-loop-less-2 c =
-    let rest = c .before .before in
-    walk-falls _ _ _ (rest .before .lowest .ensures) (rest .rest .ensures)
+loop-less-2 c = falls (c .before .before)
 
 loop-again-2 : tie.Need-loop-again-2 Inv-loop μ-loop
 loop-again-2 c =
@@ -85,21 +86,5 @@ returns c = narrowed-unblocked (walk-over _ _ (c .before .is-empty .ensures) (c 
 pub unblocked-spec : {M : Type 1} → statement M
 unblocked-spec =
     tie.close
-    (tie.spec
-    Inv-loop
-    μ-loop
-    count-requires
-    full-requires
-    minus-requires
-    loop-holds
-    is-empty-requires
-    lowest-requires
-    rest-requires
-    missing-requires
-    get-requires
-    meet-requires
-    loop-less
-    loop-again
-    loop-less-2
-    loop-again-2
-    returns)
+    (tie.spec Inv-loop μ-loop count-requires full-requires minus-requires loop-holds is-empty-requires lowest-requires rest-requires missing-requires
+    get-requires meet-requires loop-less loop-again loop-less-2 loop-again-2 returns)

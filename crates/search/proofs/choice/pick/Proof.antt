@@ -1,4 +1,5 @@
 -- The best so far is always a member: the lowest at first, and later one that was looked at.
+use Prim.Native.Nat.{_<_}
 use Rattle.sets.specs.Words.{mask}
 use Rattle.sets.specs.SubsetLaws.{sub-refl}
 use Rattle.sets.specs.WalkLaws.{walk-falls, walk-below, walk-goes-on}
@@ -15,6 +16,10 @@ abbrev μ-loop : tie.MeasureT-loop
 -- the loop's record at this turn
 abbrev turn : tie.After-lowest2 Inv-loop μ-loop → tie.At-loop Inv-loop μ-loop
 turn c = c .before .before .before
+
+-- what is to come falls
+falls : (c : tie.After-rest Inv-loop μ-loop) → mask (c .rest .result) < mask (turn (c .before) .loop .left)
+falls c = walk-falls _ _ _ (c .before .lowest2 .ensures) (c .rest .ensures)
 
 lowest-requires : tie.Need-lowest-requires Inv-loop μ-loop
 lowest-requires c κs = c .before .pre .some
@@ -37,9 +42,7 @@ missing-requires c κs =
     walk-below _ _ _ _ (at .before .before .before .pre .below) (at .loop .inv .part) (c .before .lowest2 .ensures)
 
 loop-less : tie.Need-loop-less Inv-loop μ-loop
-loop-less c =
-    let rest = c .before .before in
-    walk-falls _ _ _ (rest .before .lowest2 .ensures) (rest .rest .ensures)
+loop-less c = falls (c .before .before)
 
 loop-again : tie.Need-loop-again Inv-loop μ-loop
 loop-again c =
@@ -47,9 +50,7 @@ loop-again c =
     choosing-more (turn (rest .before) .loop .inv) (rest .before .lowest2 .ensures) (rest .rest .ensures)
 
 loop-less-2 : tie.Need-loop-less-2 Inv-loop μ-loop
-loop-less-2 c =
-    let rest = c .before .before in
-    walk-falls _ _ _ (rest .before .lowest2 .ensures) (rest .rest .ensures)
+loop-less-2 c = falls (c .before .before)
 
 loop-again-2 : tie.Need-loop-again-2 Inv-loop μ-loop
 loop-again-2 c =
@@ -62,17 +63,5 @@ returns c = c .before .before .loop .inv .member
 pub pick-spec : {M : Type 1} → statement M
 pick-spec =
     tie.close
-    (tie.spec
-    Inv-loop
-    μ-loop
-    lowest-requires
-    loop-holds
-    is-empty-requires
-    lowest-requires-2
-    rest-requires
-    missing-requires
-    loop-less
-    loop-again
-    loop-less-2
-    loop-again-2
-    returns)
+    (tie.spec Inv-loop μ-loop lowest-requires loop-holds is-empty-requires lowest-requires-2 rest-requires missing-requires loop-less loop-again
+    loop-less-2 loop-again-2 returns)

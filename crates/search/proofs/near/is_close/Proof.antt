@@ -57,16 +57,5 @@ returns c =
 pub is-close-spec : {M : Type 1} → statement M
 is-close-spec =
     tie.close
-    (tie.spec
-    get-requires
-    get-requires-2
-    meet-requires
-    meet-requires-2
-    size-requires
-    add-result
-    mul-result
-    add-result-2
-    indicator-requires
-    mul-result-2
-    add-result-3
-    returns)
+    (tie.spec get-requires get-requires-2 meet-requires meet-requires-2 size-requires add-result mul-result add-result-2 indicator-requires
+    mul-result-2 add-result-3 returns)

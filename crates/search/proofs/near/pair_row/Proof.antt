@@ -68,16 +68,5 @@ returns c =
 pub pair-row-spec : {M : Type 1} → statement M
 pair-row-spec =
     tie.close
-    (tie.spec
-    Inv-loop
-    μ-loop
-    without-requires
-    loop-holds
-    is-empty-requires
-    lowest-requires
-    rest-requires
-    is-close-requires
-    without-if-requires
-    loop-less
-    loop-again
-    returns)
+    (tie.spec Inv-loop μ-loop without-requires loop-holds is-empty-requires lowest-requires rest-requires is-close-requires without-if-requires
+    loop-less loop-again returns)

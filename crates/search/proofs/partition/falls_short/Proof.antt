@@ -90,20 +90,5 @@ returns-4 c e = absurd (false≢true e)
 pub falls-short-spec : {M : Type 1} → statement M
 falls-short-spec =
     tie.close
-    (tie.spec
-    Inv-loop
-    μ-loop
-    size-requires
-    returns
-    loop-holds
-    is-empty-requires
-    pick-requires
-    returns-2
-    sub-over
-    returns-3
-    get-requires
-    join-requires
-    meet-requires
-    loop-less
-    loop-again
-    returns-4)
+    (tie.spec Inv-loop μ-loop size-requires returns loop-holds is-empty-requires pick-requires returns-2 sub-over returns-3 get-requires join-requires
+    meet-requires loop-less loop-again returns-4)

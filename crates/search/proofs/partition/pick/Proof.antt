@@ -1,4 +1,5 @@
 -- Each member passed is dropped or kept, and best is the one passed that misses most, if that is more than k.
+use Prim.Native.Nat.{_<_}
 use Rattle.sets.specs.Words.{mask, masks}
 use Rattle.sets.specs.WalkLaws.{walk-falls, walk-below, walk-goes-on}
 use Rattle.search.specs.PartitionLaws.{Picking, picking-none, picking-same, picking-more, picking-all}
@@ -15,6 +16,10 @@ abbrev μ-loop : tie.MeasureT-loop
 -- the loop's record at this turn
 abbrev turn : tie.After-lowest Inv-loop μ-loop → tie.At-loop Inv-loop μ-loop
 turn c = c .before .before .before
+
+-- what is to come falls
+falls : (c : tie.After-rest Inv-loop μ-loop) → mask (c .rest .result) < mask (turn (c .before) .loop .todo)
+falls c = walk-falls _ _ _ (c .before .lowest .ensures) (c .rest .ensures)
 
 empty-requires : tie.Need-empty-requires Inv-loop μ-loop
 empty-requires c κs = tt
@@ -40,9 +45,7 @@ keep-requires : tie.Need-keep-requires Inv-loop μ-loop
 keep-requires c κs = c .before .before .lowest .ensures .fits
 
 loop-less : tie.Need-loop-less Inv-loop μ-loop
-loop-less c =
-    let rest = c .before .before .before in
-    walk-falls _ _ _ (rest .before .lowest .ensures) (rest .rest .ensures)
+loop-less c = falls (c .before .before .before)
 
 loop-again : tie.Need-loop-again Inv-loop μ-loop
 loop-again c =
@@ -51,9 +54,7 @@ loop-again c =
     picking-more (turn at .loop .inv) (at .lowest .ensures) (counted .before .rest .ensures) (c .before .keep .ensures) (counted .missing .ensures .0)
 
 loop-less-2 : tie.Need-loop-less-2 Inv-loop μ-loop
-loop-less-2 c =
-    let rest = c .before .before .before in
-    walk-falls _ _ _ (rest .before .lowest .ensures) (rest .rest .ensures)
+loop-less-2 c = falls (c .before .before .before)
 
 loop-again-2 : tie.Need-loop-again-2 Inv-loop μ-loop
 loop-again-2 c =
@@ -70,19 +71,5 @@ returns c = picking-all (c .before .before .before .loop .inv) (c .without .ensu
 pub pick-spec : {M : Type 1} → statement M
 pick-spec =
     tie.close
-    (tie.spec
-    Inv-loop
-    μ-loop
-    empty-requires
-    loop-holds
-    is-empty-requires
-    lowest-requires
-    rest-requires
-    missing-requires
-    keep-requires
-    loop-less
-    loop-again
-    loop-less-2
-    loop-again-2
-    without-requires
-    returns)
+    (tie.spec Inv-loop μ-loop empty-requires loop-holds is-empty-requires lowest-requires rest-requires missing-requires keep-requires loop-less
+    loop-again loop-less-2 loop-again-2 without-requires returns)

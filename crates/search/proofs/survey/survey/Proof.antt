@@ -1,4 +1,5 @@
 -- Each member passed keeps what is known of those before it: the most that one misses, a member that misses it, and what is left free.
+use Prim.Native.Nat.{_<_}
 use native.Mathlib.Omega.{arith}
 use Rattle.sets.specs.Words.{mask, masks}
 use Rattle.sets.specs.WalkLaws.{walk-falls, walk-goes-on, walk-over}
@@ -16,6 +17,10 @@ abbrev μ-loop : tie.MeasureT-loop
 -- the loop's record at this turn
 abbrev turn : tie.After-lowest Inv-loop μ-loop → tie.At-loop Inv-loop μ-loop
 turn c = c .before .before .before
+
+-- what is to come falls
+falls : (c : tie.After-rest Inv-loop μ-loop) → mask (c .rest .result) < mask (turn (c .before) .loop .left)
+falls c = walk-falls _ _ _ (c .before .lowest .ensures) (c .rest .ensures)
 
 count-requires : tie.Need-count-requires Inv-loop μ-loop
 count-requires c κs = tt
@@ -52,9 +57,7 @@ narrow-requires : tie.Need-narrow-requires Inv-loop μ-loop
 narrow-requires c κs = tt
 
 loop-less : tie.Need-loop-less Inv-loop μ-loop
-loop-less c =
-    let rest = c .before .before .before .before in
-    walk-falls _ _ _ (rest .before .lowest .ensures) (rest .rest .ensures)
+loop-less c = falls (c .before .before .before .before)
 
 loop-again : tie.Need-loop-again Inv-loop μ-loop
 loop-again c =
@@ -65,9 +68,7 @@ loop-again c =
     (c .before .narrow .ensures) (c .if2 .taken)
 
 loop-less-2 : tie.Need-loop-less-2 Inv-loop μ-loop
-loop-less-2 c =
-    let rest = c .before .before .before .before in
-    walk-falls _ _ _ (rest .before .lowest .ensures) (rest .rest .ensures)
+loop-less-2 c = falls (c .before .before .before .before)
 
 loop-again-2 : tie.Need-loop-again-2 Inv-loop μ-loop
 loop-again-2 c =
@@ -83,21 +84,5 @@ returns c = finding-all (walk-over _ _ (c .before .is-empty .ensures) (c .if1 .l
 pub survey-spec : {M : Type 1} → statement M
 survey-spec =
     tie.close
-    (tie.spec
-    Inv-loop
-    μ-loop
-    count-requires
-    full-requires
-    minus-requires
-    loop-holds
-    is-empty-requires
-    lowest-requires
-    rest-requires
-    missing-requires
-    get-requires
-    narrow-requires
-    loop-less
-    loop-again
-    loop-less-2
-    loop-again-2
-    returns)
+    (tie.spec Inv-loop μ-loop count-requires full-requires minus-requires loop-holds is-empty-requires lowest-requires rest-requires missing-requires
+    get-requires narrow-requires loop-less loop-again loop-less-2 loop-again-2 returns)

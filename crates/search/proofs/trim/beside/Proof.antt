@@ -47,11 +47,4 @@ returns c =
 pub beside-spec : {M : Type 1} → statement M
 beside-spec =
     tie.close
-    (tie.spec
-    with-requires
-    without-requires
-    get-requires
-    meet-requires
-    drop-blocked-requires
-    drop-missing-requires
-    returns)
+    (tie.spec with-requires without-requires get-requires meet-requires drop-blocked-requires drop-missing-requires returns)

@@ -1,4 +1,5 @@
 -- The candidates are narrowed by the row of each member that v is not adjacent to and that misses k or more: what goes is in no plex that holds s.
+use Prim.Native.Nat.{_<_}
 use native.Mathlib.Omega.{arith}
 use mathlib.Core.Path.{ap, _∙_}
 use lib.Bits.{bitAnd}
@@ -7,7 +8,7 @@ use Rattle.sets.specs.Graph.{row}
 use Rattle.sets.specs.Words.{mask, masks}
 use Rattle.sets.specs.WalkLaws.{walk-falls, walk-goes-on, walk-over}
 use Rattle.judging.specs.NarrowLaws.{Narrowed, narrowed-vertex, narrowed-same, narrowed-more}
-use Rattle.search.specs.TrimLaws.{blocked-none, blocked-all}
+use Rattle.search.specs.TrimLaws.{drops-blocked-none, drops-blocked-all}
 use Rattle.search.proofs.trim.drop_blocked.Statement.{statement}
 use Rattle.search.proofs.trim.drop_blocked.Tie as tie
 
@@ -22,6 +23,10 @@ abbrev μ-loop : tie.MeasureT-loop
 abbrev turn : tie.After-lowest Inv-loop μ-loop → tie.At-loop Inv-loop μ-loop
 turn c = c .before .before .before
 
+-- what is to come falls
+falls : (c : tie.After-rest Inv-loop μ-loop) → mask (c .rest .result) < mask (turn (c .before) .loop .left)
+falls c = walk-falls _ _ _ (c .before .lowest .ensures) (c .rest .ensures)
+
 get-requires : tie.Need-get-requires Inv-loop μ-loop
 get-requires c κs = c .before .pre .vertex
 
@@ -29,7 +34,7 @@ minus-requires : tie.Need-minus-requires Inv-loop μ-loop
 minus-requires c κs = tt
 
 loop-holds : tie.Need-loop-holds Inv-loop μ-loop
-loop-holds c = rw (c .minus .ensures, c .before .get .ensures) (blocked-none (c .before .before .before .pre))
+loop-holds c = rw (c .minus .ensures, c .before .get .ensures) (drops-blocked-none (c .before .before .before .pre))
 
 is-empty-requires : tie.Need-is-empty-requires Inv-loop μ-loop
 is-empty-requires c κs = tt
@@ -52,9 +57,7 @@ meet-requires : tie.Need-meet-requires Inv-loop μ-loop
 meet-requires c κs = tt
 
 loop-less : tie.Need-loop-less Inv-loop μ-loop
-loop-less c =
-    let rest = c .before .before .before .before in
-    walk-falls _ _ _ (rest .before .lowest .ensures) (rest .rest .ensures)
+loop-less c = falls (c .before .before .before .before)
 
 loop-again : tie.Need-loop-again Inv-loop μ-loop
 loop-again c =
@@ -64,9 +67,7 @@ loop-again c =
     (c .meet .ensures ∙ ap (bitAnd (mask _)) (c .before .get2 .ensures)) (omega arith)
 
 loop-less-2 : tie.Need-loop-less-2 Inv-loop μ-loop
-loop-less-2 c =
-    let rest = c .before .before in
-    walk-falls _ _ _ (rest .before .lowest .ensures) (rest .rest .ensures)
+loop-less-2 c = falls (c .before .before)
 
 loop-again-2 : tie.Need-loop-again-2 Inv-loop μ-loop
 loop-again-2 c =
@@ -78,25 +79,10 @@ returns : tie.Need-returns Inv-loop μ-loop
 returns c =
     let end = c .before .before in
     let start = end .before .before .before .before in
-    blocked-all (start .pre) (walk-over _ _ (c .before .is-empty .ensures) (c .if1 .left)) (end .loop .inv)
+    drops-blocked-all (start .pre) (walk-over _ _ (c .before .is-empty .ensures) (c .if1 .left)) (end .loop .inv)
 
 pub drop-blocked-spec : {M : Type 1} → statement M
 drop-blocked-spec =
     tie.close
-    (tie.spec
-    Inv-loop
-    μ-loop
-    get-requires
-    minus-requires
-    loop-holds
-    is-empty-requires
-    lowest-requires
-    rest-requires
-    missing-requires
-    get-requires-2
-    meet-requires
-    loop-less
-    loop-again
-    loop-less-2
-    loop-again-2
-    returns)
+    (tie.spec Inv-loop μ-loop get-requires minus-requires loop-holds is-empty-requires lowest-requires rest-requires missing-requires get-requires-2
+    meet-requires loop-less loop-again loop-less-2 loop-again-2 returns)

@@ -7,7 +7,7 @@ use Rattle.sets.specs.Graph.{row}
 use Rattle.sets.specs.Words.{mask, masks}
 use Rattle.sets.specs.WalkLaws.{walk-falls, walk-goes-on, walk-over}
 use Rattle.search.specs.DropLaws.{Dropping, dropping-vertex, dropping-next}
-use Rattle.search.specs.TrimLaws.{costly, missing-none, missing-all}
+use Rattle.search.specs.TrimLaws.{costly, drops-missing-none, drops-missing-all}
 use Rattle.search.proofs.trim.drop_missing.Statement.{statement}
 use Rattle.search.proofs.trim.drop_missing.Tie as tie
 
@@ -30,7 +30,7 @@ minus-requires : tie.Need-minus-requires Inv-loop μ-loop
 minus-requires c κs = tt
 
 loop-holds : tie.Need-loop-holds Inv-loop μ-loop
-loop-holds c = rw (c .minus .ensures, c .before .get .ensures) (missing-none (c .before .before .before .pre) _)
+loop-holds c = rw (c .minus .ensures, c .before .get .ensures) (drops-missing-none (c .before .before .before .pre) _)
 
 is-empty-requires : tie.Need-is-empty-requires Inv-loop μ-loop
 is-empty-requires c κs = tt
@@ -62,22 +62,10 @@ returns : tie.Need-returns Inv-loop μ-loop
 returns c =
     let end = c .before .before in
     let start = end .before .before .before .before in
-    missing-all (start .pre) _ (walk-over _ _ (c .before .is-empty .ensures) (c .if1 .left)) (end .loop .inv)
+    drops-missing-all (start .pre) _ (walk-over _ _ (c .before .is-empty .ensures) (c .if1 .left)) (end .loop .inv)
 
 pub drop-missing-spec : {M : Type 1} → statement M
 drop-missing-spec =
     tie.close
-    (tie.spec
-    Inv-loop
-    μ-loop
-    get-requires
-    minus-requires
-    loop-holds
-    is-empty-requires
-    lowest-requires
-    rest-requires
-    missing-requires
-    without-if-requires
-    loop-less
-    loop-again
-    returns)
+    (tie.spec Inv-loop μ-loop get-requires minus-requires loop-holds is-empty-requires lowest-requires rest-requires missing-requires
+    without-if-requires loop-less loop-again returns)
