@@ -14,7 +14,9 @@ use Rattle.sets.specs.Graph.{row}
 use Rattle.sets.specs.RangeLaws.{and-left, and-right, both, or-cases, or-left, or-right, is-true, is-false}
 use Rattle.sets.specs.BitLaws.{bit-le}
 use Rattle.sets.specs.PointLaws.{bit-with, in-single, by-bit}
-use Rattle.sets.specs.SubsetLaws.{sub-refl, with-same, sub-with, in-of-sub, not-has, not-in}
+use Rattle.sets.specs.SubsetLaws.{sub-refl, with-same, sub-with, in-of-sub, in-below, not-has, not-in}
+use Rattle.sets.specs.Words.{Lowest}
+use Rattle.sets.specs.WalkLaws.{Walked, walk-all, walk-member}
 use Rattle.sets.specs.MemberLaws.{set-of-below, set-of-in, set-of-holds, all-members, members-all, any-members, members-any}
 use Rattle.judging.specs.Graph.{adjacent, missing, Valid}
 use Rattle.judging.specs.Plex.{maximal, Plex, Maximal, unblocked, extendable}
@@ -105,3 +107,21 @@ module _ (g : List ℕ) (k : ℕ) where
       go : (w : Bool) → (T w → T (extendable g k s)) → (T (extendable g k s) → T w) → not w ≡ maximal g k s
       go true into back = is-false (maximal g k s) (λ t. extendable-none s s ok b (into tt) (sub-refl s) (maximal-holds g k s t))
       go false into back = is-true (maximal g k s) (maximal-test g k s (unextendable-maximal s ok p back))
+
+-- ---- an extendable set, vertex by vertex
+
+module _ (g : List ℕ) (k s : ℕ) {left : ℕ} (w : Walked (λ x. k ≤ missing g s x) (unblocked g k s) left) where
+  pub extendable-by : {x : ℕ} → Lowest left x → missing g s x < k → true ≡ extendable g k s
+  unfolding extendable
+  extendable-by {x} l m =
+      let i = walk-member (unblocked g k s) left x (w .part) l in
+      is-true (extendable g k s)
+      (members-any (λ (y : ℕ). ltb (missing g s y) k) (length g) (unblocked g k s) x
+      (in-below (length g) (unblocked g k s) x (unblocked-below g k s) i) i (lt→ltb (missing g s x) k m))
+
+  pub extendable-by-none : left ≡ 0 → false ≡ extendable g k s
+  unfolding extendable
+  extendable-by-none z =
+      is-false (extendable g k s) (λ t.
+      let r = any-members (λ (y : ℕ). ltb (missing g s y) k) (length g) (unblocked g k s) t in
+      omega (arith, walk-all _ (unblocked g k s) left z w (r .0) (r .2), ltb→lt (missing g s (r .0)) k (r .3)))

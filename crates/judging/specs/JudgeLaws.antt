@@ -4,23 +4,21 @@ use native.Mathlib.Omega.{arith}
 use mathlib.Core.Path.{_≡_, refl, sym, ap, _∙_, subst}
 use mathlib.Core.Bool.{Bool, true, false, not, _&&_, _||_}
 use mathlib.Core.List.{List}
-use lib.Dec.{T, leb, ltb, ltb→lt, lt→ltb, T-not}
+use lib.Dec.{T, leb, ltb, T-not}
 use lib.ListN.{length}
 use borrow.Author.Tests.{ltb-true, ltb-false, leb-true, leb-false, lt-ltb, le-ltb, le-leb, lt-leb}
 use Rattle.sets.specs.Ranges.{range}
 use Rattle.sets.specs.Set.{has, In}
 use Rattle.sets.specs.Graph.{row}
 use Rattle.sets.specs.RangeLaws.{any-elim, any-intro, mem-range, and-left, and-right, both, is-true, is-false, true-holds, false-fails}
-use Rattle.sets.specs.SubsetLaws.{has-in, in-has, in-below}
-use Rattle.sets.specs.MemberLaws.{any-members, members-any}
+use Rattle.sets.specs.SubsetLaws.{has-in, in-has}
 use Rattle.sets.specs.Words.{Lowest}
 use Rattle.sets.specs.WalkLaws.{Walked, walk-all, walk-member, walk-below}
 use Rattle.judging.specs.Graph.{adjacent, missing}
-use Rattle.judging.specs.Plex.{plex, maximal, unblocked, extendable}
+use Rattle.judging.specs.Plex.{plex, maximal}
 use Rattle.judging.specs.Setting.{Inside}
 use Rattle.judging.specs.Refusal.{outside, badRow, oneWay}
 use Rattle.judging.specs.PlexLaws.{plex-holds, plex-test, maximal-holds}
-use Rattle.judging.specs.ExtensionLaws.{unblocked-below}
 
 -- ---- a k-plex, member by member
 
@@ -35,24 +33,6 @@ module _ {g : List ℕ} {k s left : ℕ} (h : Inside g s) (w : Walked (λ v. mis
 
 pub no-plex : (g : List ℕ) (k s : ℕ) → plex g k s ≡ false → false ≡ maximal g k s
 no-plex g k s e = is-false (maximal g k s) (λ t. false-fails (plex g k s) e (plex-test g k s (maximal-holds g k s t .0)))
-
--- ---- an extendable set, vertex by vertex
-
-module _ (g : List ℕ) (k s : ℕ) {left : ℕ} (w : Walked (λ x. k ≤ missing g s x) (unblocked g k s) left) where
-  pub extendable-by : {x : ℕ} → Lowest left x → missing g s x < k → true ≡ extendable g k s
-  unfolding extendable
-  extendable-by {x} l m =
-      let i = walk-member (unblocked g k s) left x (w .part) l in
-      is-true (extendable g k s)
-      (members-any (λ (y : ℕ). ltb (missing g s y) k) (length g) (unblocked g k s) x
-      (in-below (length g) (unblocked g k s) x (unblocked-below g k s) i) i (lt→ltb (missing g s x) k m))
-
-  pub extendable-by-none : left ≡ 0 → false ≡ extendable g k s
-  unfolding extendable
-  extendable-by-none z =
-      is-false (extendable g k s) (λ t.
-      let r = any-members (λ (y : ℕ). ltb (missing g s y) k) (length g) (unblocked g k s) t in
-      omega (arith, walk-all _ (unblocked g k s) left z w (r .0) (r .2), ltb→lt (missing g s (r .0)) k (r .3)))
 
 -- ---- ranges
 

@@ -6,8 +6,7 @@ use Rattle.sets.specs.Words.{mask, masks}
 use Rattle.sets.specs.WalkLaws.{Walked, walk-none, walk-next, walk-falls, walk-below, walk-goes-on, walk-over}
 use Rattle.judging.specs.Graph.{missing}
 use Rattle.judging.specs.Plex.{unblocked}
-use Rattle.judging.specs.ExtensionLaws.{unblocked-below}
-use Rattle.judging.specs.JudgeLaws.{extendable-by, extendable-by-none}
+use Rattle.judging.specs.ExtensionLaws.{unblocked-below, extendable-by, extendable-by-none}
 use Rattle.judging.proofs.plex.is_extendable.Statement.{statement}
 use Rattle.judging.proofs.plex.is_extendable.Tie as tie
 
