@@ -1,7 +1,7 @@
 -- A vertex that no saturated member of a set blocks can be added to every plex inside the set; so a plex is maximal exactly if it is not extendable.
 use Prim.Native.Nat.{ℕ, _^_, _≤_, _<_}
 use native.Mathlib.Omega.{arith}
-use native.Mathlib.Decide.{ℕ-discrete, decLt}
+use native.Mathlib.Decide.{decLt}
 use mathlib.Core.Path.{_≡_, subst}
 use mathlib.Core.Bool.{Bool, true, false, not, _&&_, _||_}
 use mathlib.Core.Logic.{_⊎_, inl, inr}
@@ -13,7 +13,10 @@ use Rattle.sets.specs.Set.{bit, has, In, Sub, with, members}
 use Rattle.sets.specs.Graph.{row}
 use Rattle.sets.specs.RangeLaws.{and-left, and-right, both, or-cases, or-left, or-right, is-true, is-false}
 use Rattle.sets.specs.BitLaws.{bit-le}
-use Rattle.sets.specs.SubsetLaws.{sub-refl, with-other, with-same, sub-with, in-of-sub, not-has, not-in}
+use Rattle.sets.specs.PointLaws.{bit-with, in-single, by-bit}
+use Rattle.sets.specs.SubsetLaws.{sub-refl, with-same, sub-with, in-of-sub, in-below, not-has, not-in}
+use Rattle.sets.specs.Words.{Lowest}
+use Rattle.sets.specs.WalkLaws.{Walked, walk-all, walk-member}
 use Rattle.sets.specs.MemberLaws.{set-of-below, set-of-in, set-of-holds, all-members, members-all, any-members, members-any}
 use Rattle.judging.specs.Graph.{adjacent, missing, Valid}
 use Rattle.judging.specs.Plex.{maximal, Plex, Maximal, unblocked, extendable}
@@ -61,25 +64,19 @@ module _ (g : List ℕ) (k : ℕ) where
 
   -- such an x that misses fewer than k of a can be added to every plex inside a
   pub unblocked-adds : (a t x : ℕ) → Valid g → x < length g → Unblocked a x → missing g a x < k → Sub t a → Plex g k t → Plex g k (with t x)
-  unblocked-adds a t x ok lx u few h p v l e = go (ℕ-discrete x v)
+  unblocked-adds a t x ok lx u few h p v l e =
+      by-bit t v (λ i. room i (decLt (missing g a v) k))
+      (λ o. subst (λ (y : ℕ). missing g (with t x) y ≤ k) (in-single x v (omega (arith, bit-with t x v, e, o))) own)
     where
       out : bit t x ≡ 0
       out = omega (arith, h x, u .0)
 
-      go : Dec (x ≡ v) → missing g (with t x) v ≤ k
-      go (yes q) =
-          subst (λ (y : ℕ). missing g (with t x) y ≤ k) q
-          (omega (arith, missing-with g t x x out, missing-mono g t a x h, ok .loopless x lx))
-      go (no nq) = room (decLt (missing g a v) k)
-        where
-          inside : In v t
-          inside = omega (arith, with-other t x v nq)
+      own : missing g (with t x) x ≤ k
+      own = omega (arith, missing-with g t x x out, missing-mono g t a x h, ok .loopless x lx)
 
-          room : Dec (missing g a v < k) → missing g (with t x) v ≤ k
-          room (yes d) = omega (arith, missing-with g t x v out, missing-mono g t a v h)
-          room (no nd) =
-              let near = u .1 v l (in-of-sub t a v h inside) (omega arith) in
-              omega (arith, missing-with g t x v out, near, p v l inside)
+      room : In v t → Dec (missing g a v < k) → missing g (with t x) v ≤ k
+      room i (yes d) = omega (arith, missing-with g t x v out, missing-mono g t a v h)
+      room i (no nd) = omega (arith, missing-with g t x v out, u .1 v l (in-of-sub t a v h i) (omega arith), p v l i)
 
   -- so no plex inside an extendable set is maximal
   pub extendable-none : (a t : ℕ) → Valid g → t < 2 ^ length g → T (extendable g k a) → Sub t a → Maximal g k t → ⊥
@@ -110,3 +107,21 @@ module _ (g : List ℕ) (k : ℕ) where
       go : (w : Bool) → (T w → T (extendable g k s)) → (T (extendable g k s) → T w) → not w ≡ maximal g k s
       go true into back = is-false (maximal g k s) (λ t. extendable-none s s ok b (into tt) (sub-refl s) (maximal-holds g k s t))
       go false into back = is-true (maximal g k s) (maximal-test g k s (unextendable-maximal s ok p back))
+
+-- ---- an extendable set, vertex by vertex
+
+module _ (g : List ℕ) (k s : ℕ) {left : ℕ} (w : Walked (λ x. k ≤ missing g s x) (unblocked g k s) left) where
+  pub extendable-by : {x : ℕ} → Lowest left x → missing g s x < k → true ≡ extendable g k s
+  unfolding extendable
+  extendable-by {x} l m =
+      let i = walk-member (unblocked g k s) left x (w .part) l in
+      is-true (extendable g k s)
+      (members-any (λ (y : ℕ). ltb (missing g s y) k) (length g) (unblocked g k s) x
+      (in-below (length g) (unblocked g k s) x (unblocked-below g k s) i) i (lt→ltb (missing g s x) k m))
+
+  pub extendable-by-none : left ≡ 0 → false ≡ extendable g k s
+  unfolding extendable
+  extendable-by-none z =
+      is-false (extendable g k s) (λ t.
+      let r = any-members (λ (y : ℕ). ltb (missing g s y) k) (length g) (unblocked g k s) t in
+      omega (arith, walk-all _ (unblocked g k s) left z w (r .0) (r .2), ltb→lt (missing g s (r .0)) k (r .3)))

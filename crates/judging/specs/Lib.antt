@@ -8,6 +8,7 @@ pub mod Calls
 pub mod GraphLaws
 pub mod PlexLaws
 pub mod ExtensionLaws
+pub mod NarrowLaws
 pub mod RefusalLaws
 pub mod JudgeLaws
 pub mod CallLaws

@@ -1,13 +1,18 @@
 -- The search: definitions first, then their laws.
 pub mod Found
+pub mod Trim
+pub mod DropLaws
 pub mod TrimLaws
 pub mod FoundLaws
 pub mod Survey
+pub mod SurveyLaws
 pub mod Choice
+pub mod ChoiceLaws
 pub mod Partition
 pub mod PartitionLaws
 pub mod NearRows
-pub mod NearLaws
+pub mod NearRowsLaws
+pub mod Sift
 pub mod SiftLaws
 pub mod Ready
 pub mod ReadyLaws

@@ -7,18 +7,15 @@
 --   Pairable g k q s          what a pair row relies on: s is inside the graph, and the sums of the test are small
 --   Pairing g ask s           the same, of a valid graph, and s holds every listed plex
 --   Lent g t                  the lent table t has a row for each vertex
---   Written f m before t      the first m rows of t are those of f, and t is as long as before
---   NearAt g ask v r          r is a set of vertices, and holds all members, v aside, of each listed plex that holds v
 --   Filled g ask before t     t is as long as before, its rows are sets of vertices, and it is Near
 use Prim.Native.Nat.{ℕ, _+_, _*_, _^_, _≤_, _<_}
 use mathlib.Core.Path.{_≡_}
-use mathlib.Core.Logic.{_≢_}
 use mathlib.Core.Bool.{Bool, cond, _&&_}
 use mathlib.Core.List.{List}
 use lib.Bits.{bitAnd}
 use lib.Dec.{leb}
 use lib.ListN.{length}
-use Rattle.sets.specs.Set.{bit, has, In, Sub, without, full, setOf}
+use Rattle.sets.specs.Set.{bit, has, Sub, without, full, setOf}
 use Rattle.sets.specs.Graph.{row}
 use Rattle.sets.specs.Words.{width}
 use Rattle.judging.specs.Request.{Request}
@@ -55,14 +52,6 @@ pub record Pairing (g : List ℕ) (ask : Request) (s : ℕ) : Type 0 where
 pub record Lent (g t : List ℕ) : Type 0 where
   pub sized : Sized g
   pub room : length g ≤ length t
-
-pub record Written (f : ℕ → ℕ) (m : ℕ) (before t : List ℕ) : Type 0 where
-  pub long : length t ≡ length before
-  pub rows : (v : ℕ) → v < m → row t v ≡ f v
-
-pub record NearAt (g : List ℕ) (ask : Request) (v r : ℕ) : Type 0 where
-  pub low : r < 2 ^ length g
-  pub near : (x : ℕ) → Listed g ask x → In v x → (u : ℕ) → In u x → u ≢ v → In u r
 
 pub record Filled (g : List ℕ) (ask : Request) (before t : List ℕ) : Type 0 where
   pub long : length t ≡ length before

@@ -4,7 +4,7 @@ ghost use mathlib.Core.Path.{_≡_};
 ghost use lib.Bits.{bitAnd};
 ghost use Rattle.sets.specs.Words.{mask, masks};
 ghost use Rattle.judging.specs.Setting.{Inside};
-ghost use Rattle.search.specs.Survey.{Surveyed};
+ghost use Rattle.search.specs.Survey.{Finds};
 use sets::Set;
 
 // What the pass finds: `most` is the largest number that a member misses, `worst` such a member,
@@ -28,7 +28,7 @@ fn narrow(free: Set, row: Set, k: usize, m: usize) -> Set
 // The two tests of a turn stand apart, so that they are compiled to choices and not to branches, which would be hard to foretell.
 pub fn survey(rows: &[u64], k: usize, a: Set) -> Findings
     requires { ⌜ Inside (masks (now rows)) (mask a) ⌝ }
-    ensures { λ r. ⌜ Surveyed (masks (now (rows .entry))) k (mask a) 0 (r .most) (r .worst) (mask (r .free)) ⌝ }
+    ensures { λ r. ⌜ Finds (masks (now (rows .entry))) k (mask a) (r .most) (r .worst) (mask (r .free)) ⌝ }
 {
     let mut most = 0;
     let mut worst = 0;

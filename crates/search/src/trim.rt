@@ -1,8 +1,8 @@
 // Candidates that no listed plex holds beside the set s, to which v came last, are dropped.
 ghost use Rattle.sets.specs.Words.{mask, masks};
 ghost use Rattle.judging.specs.Request.{Request, request};
-ghost use Rattle.search.specs.TrimLaws.{Trimmable, Unblocked, Cheapened, Joinable, Beside};
-ghost use Rattle.search.specs.SiftLaws.{Siftable};
+ghost use Rattle.search.specs.Trim.{Trimmable, DropsBlocked, DropsMissing, Joinable, Beside};
+ghost use Rattle.search.specs.Sift.{Siftable};
 ghost use Rattle.search.specs.Found.{Near};
 ghost use Prim.Native.Nat.{_-_};
 ghost use mathlib.Core.Path.{_≡_};
@@ -11,7 +11,7 @@ use sets::Set;
 // Drops what a member of s that misses k or more of s is not adjacent to. Only the members that v is not adjacent to can have come to that.
 fn drop_blocked(rows: &[u64], k: usize, s: Set, c: Set, v: usize) -> Set
     requires { ⌜ Trimmable (masks (now rows)) (mask s) (mask c) v ⌝ }
-    ensures { λ r. ⌜ Unblocked (masks (now (rows .entry))) k (mask s) v (mask c) (mask r) ⌝ }
+    ensures { λ r. ⌜ DropsBlocked (masks (now (rows .entry))) k (mask s) v (mask c) (mask r) ⌝ }
 {
     let mut kept = c;
     let mut left = sets::minus(s, sets::get(rows, v));
@@ -28,7 +28,7 @@ fn drop_blocked(rows: &[u64], k: usize, s: Set, c: Set, v: usize) -> Set
 // Drops the candidates that miss k or more of s. Only those that v is not adjacent to can have come to that.
 fn drop_missing(rows: &[u64], k: usize, s: Set, c: Set, v: usize) -> Set
     requires { ⌜ Trimmable (masks (now rows)) (mask s) (mask c) v ⌝ }
-    ensures { λ r. ⌜ Cheapened (masks (now (rows .entry))) k (mask s) v (mask c) (mask r) ⌝ }
+    ensures { λ r. ⌜ DropsMissing (masks (now (rows .entry))) k (mask s) v (mask c) (mask r) ⌝ }
 {
     let mut kept = c;
     let mut left = sets::minus(c, sets::get(rows, v));
@@ -52,8 +52,8 @@ pub fn beside(rows: &[u64], near: &[u64], k: usize, s: Set, c: Set, v: usize) ->
     drop_missing(rows, k, joined, drop_blocked(rows, k, joined, close, v), v)
 }
 
-// Of `close`, which is what `beside` left, those that have enough common neighbours with v among s, v and `close` itself (001, Lemma 3). This drops many while few
-// vertices are taken, and later it costs more than it saves: it is done for the next `few` of them.
+// Of `close`, which is what `beside` left, those that have enough common neighbours with v among s, v and `close` itself (001, Lemma 3). This drops
+// many while few vertices are taken, and later it costs more than it saves: it is done for the next `few` of them.
 pub fn sift(
     rows: &[u64],
     k: usize,

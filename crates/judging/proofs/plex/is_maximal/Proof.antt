@@ -1,4 +1,4 @@
--- `judging::plex::is_maximal` meets its contract: a plex is maximal exactly if it is not extendable.
+-- What is no plex is not maximal, and a plex is maximal exactly if it is not extendable.
 use mathlib.Core.Path.{sym, ap, _∙_}
 use mathlib.Core.Bool.{not}
 use borrow.Author.Tests.{not-true, not-false}
@@ -24,9 +24,11 @@ is-extendable-requires c κs = search needs
 
 returns-2 : tie.Need-returns-2
 returns-2 c =
+    let tested = c .before .before .before in
+    let given = tested .before .before .pre in
     ap not (c .is-extendable .ensures)
-    ∙ maximal-by-extension _ _ _ (c .before .before .before .before .before .pre .valid) (c .before .before .before .before .before .pre .inside .below)
-    (plex-holds _ _ _ (true-holds _ (sym (c .before .before .before .is-plex .ensures) ∙ not-false _ (c .before .before .if1 .left))))
+    ∙ maximal-by-extension _ _ _ (given .valid) (given .inside .below)
+    (plex-holds _ _ _ (true-holds _ (sym (tested .is-plex .ensures) ∙ not-false _ (c .before .before .if1 .left))))
 
 pub is-maximal-spec : {M : Type 1} → statement M
 is-maximal-spec =

@@ -1,4 +1,4 @@
--- `judging::plex::missing` meets its contract: the size of what is left of s without the neighbours of v.
+-- What v misses of s is the size of s without the neighbours of v, which is how the definition counts it.
 use mathlib.Core.Path.{ap, _∙_}
 use Rattle.sets.specs.Set.{size, minus}
 use Rattle.judging.specs.Graph.{missing}
@@ -17,7 +17,9 @@ size-requires c κs = search needs
 
 returns : tie.Need-returns
 unfolding missing
-returns c = (c .size .ensures .0 ∙ ap size (c .before .minus .ensures ∙ ap (minus _) (c .before .before .get .ensures)), c .size .ensures .1)
+returns c =
+    let rest = c .before .minus .ensures ∙ ap (minus _) (c .before .before .get .ensures) in
+    (c .size .ensures .0 ∙ ap size rest, c .size .ensures .1)
 
 pub missing-spec : {M : Type 1} → statement M
 missing-spec = tie.close (tie.spec get-requires minus-requires size-requires returns)

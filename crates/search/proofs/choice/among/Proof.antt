@@ -1,7 +1,7 @@
--- `search::choice::among` meets its contract.
+-- Where w is a candidate it is chosen alone; else what is given are the candidates that w is not adjacent to.
 use mathlib.Core.Path.{sym, ap, _∙_}
 use Rattle.sets.specs.Set.{minus}
-use Rattle.search.specs.Choice.{among-itself, among-far}
+use Rattle.search.specs.ChoiceLaws.{among-itself, among-far}
 use borrow.Author.Needs.{needs}
 use Rattle.search.proofs.choice.among.Statement.{statement}
 use Rattle.search.proofs.choice.among.Tie as tie
@@ -13,7 +13,7 @@ single-requires : tie.Need-single-requires
 single-requires c κs = search needs
 
 returns : tie.Need-returns
-returns c = among-itself _ _ _ _ (c .single .ensures) (sym (c .before .before .has .ensures) ∙ c .before .if1 .taken)
+returns c = among-itself (c .single .ensures) (sym (c .before .before .has .ensures) ∙ c .before .if1 .taken)
 
 get-requires : tie.Need-get-requires
 get-requires c κs = search needs
@@ -23,8 +23,8 @@ minus-requires c κs = search needs
 
 returns-2 : tie.Need-returns-2
 returns-2 c =
-    among-far _ _ _ _ (c .minus .ensures ∙ ap (minus _) (c .before .get .ensures))
-    (sym (c .before .before .before .has .ensures) ∙ c .before .before .if1 .left)
+    let none = c .before .before in
+    among-far (c .minus .ensures ∙ ap (minus _) (c .before .get .ensures)) (sym (none .before .has .ensures) ∙ none .if1 .left)
 
 pub among-spec : {M : Type 1} → statement M
 among-spec =

@@ -1,29 +1,34 @@
--- `search::near::fill` meets its contract. After v turns the first v rows are those of the cut that is switched on, each of which is near.
+-- After v turns the first v rows are those of the cuts that are switched on, each of which is near.
 use Prim.Native.Nat.{_-_}
 use mathlib.Core.Path.{_≡_, refl, _∙_}
 use lib.ListN.{length}
 use native.Mathlib.Omega.{arith}
 use Rattle.sets.specs.Words.{mask, masks}
-use Rattle.search.specs.NearRows.{nearRow, Written}
-use Rattle.search.specs.NearLaws.{written-none, written-more, written-filled}
+use Rattle.search.specs.NearRows.{nearRow}
+use Rattle.search.specs.NearRowsLaws.{Written, written-none, written-more, written-filled}
 use Rattle.search.proofs.near.fill.Statement.{statement}
 use Rattle.search.proofs.near.fill.Tie as tie
 
 abbrev Inv-loop : tie.InvT-loop
-Inv-loop rows k q core reach pairs near₀ n v₀ near v = Written (nearRow (masks rows) k q (mask core) reach pairs) v (masks near₀) (masks near) × (length near ≡ length near₀)
+Inv-loop rows k q core reach pairs near₀ n v₀ near v =
+    Written (nearRow (masks rows) k q (mask core) reach pairs) v (masks near₀) (masks near) × (length near ≡ length near₀)
 
 abbrev μ-loop : tie.MeasureT-loop
 μ-loop rows k q core reach pairs near₀ n v₀ near v = n - v
+
+-- the entry
+abbrev start : tie.At-loop Inv-loop μ-loop → tie.Start Inv-loop μ-loop
+start c = c .before .before .before .before
 
 count-requires : tie.Need-count-requires Inv-loop μ-loop
 count-requires c κs = tt
 
 loop-holds : tie.Need-loop-holds Inv-loop μ-loop
-loop-holds c = (written-none _ _, refl)
+loop-holds c = (written-none, refl)
 
 near-row-requires : tie.Need-near-row-requires Inv-loop μ-loop
 near-row-requires c κs =
-    let pairing = c .before .before .before .before .before .before .pre .1 in
+    let pairing = start (c .before .before) .pre .1 in
     (pairing .pairable, pairing .valid, omega arith)
 
 put-requires : tie.Need-put-requires Inv-loop μ-loop
@@ -38,16 +43,19 @@ loop-less c = omega arith
 loop-again : tie.Need-loop-again Inv-loop μ-loop
 loop-again c =
     let called = c .before .before in
-    let v = called .before .before .before .before .loop in
-    (written-more _ _ _ _ _ _ (omega (arith, v .inv .0 .long, c .before .before .before .before .before .before .before .before .before .before .pre .0 .room)) (called .before .near-row .ensures) (called .put .ensures) (v .inv .0), called .put .kept .0 ∙ v .inv .1)
+    let turn = called .before .before .before .before in
+    let written = turn .loop .inv .0 in (
+      written-more written (omega (arith, written .long, start turn .pre .0 .room)) (called .before .near-row .ensures) (called .put .ensures),
+      called .put .kept .0 ∙ turn .loop .inv .1,
+    )
 
 same-length : tie.Need-same-length Inv-loop μ-loop
 same-length c = c .before .loop .inv .1
 
 returns : tie.Need-returns Inv-loop μ-loop
 returns c =
-    let pre = c .before .before .before .before .before .pre in
-    written-filled _ _ _ _ _ _ _ _ (pre .1) (pre .2) (omega arith) (c .before .loop .inv .0)
+    let pre = start (c .before) .pre in
+    written-filled _ _ (pre .1) (pre .2) (omega arith) (c .before .loop .inv .0)
 
 pub fill-spec : {M : Type 1} → statement M
 fill-spec = tie.close (tie.spec Inv-loop μ-loop count-requires loop-holds near-row-requires put-requires add-v loop-less loop-again same-length returns)

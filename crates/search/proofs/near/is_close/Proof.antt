@@ -1,11 +1,19 @@
--- `search::near::is_close` meets its contract: it is the test by its parts, the common neighbours counted and the adjacency looked up.
+-- The test by its parts: the common neighbours in the core are counted, and the adjacency of u and v is looked up.
+use Prim.Native.Nat.{_≤_}
 use native.Mathlib.Omega.{arith}
 use borrow.Author.Needs.{needs}
 use Rattle.sets.specs.BitLaws.{bit-le}
 use Rattle.sets.specs.Words.{mask}
-use Rattle.search.specs.NearLaws.{close-test}
+use Rattle.search.specs.NearRowsLaws.{close-test}
 use Rattle.search.proofs.near.is_close.Statement.{statement}
 use Rattle.search.proofs.near.is_close.Tie as tie
+
+-- the row of v has been read
+abbrev read : tie.After-indicator → tie.After-get
+read c = c .before .before .before .before .before
+
+one : (c : tie.After-indicator) → c .indicator .result ≤ 1
+one c = omega (arith, c .indicator .ensures, bit-le (mask (read c .get .result)) (read c .before .before .args .u))
 
 get-requires : tie.Need-get-requires
 get-requires c κs = search needs
@@ -35,28 +43,19 @@ indicator-requires : tie.Need-indicator-requires
 indicator-requires c κs = search needs
 
 mul-result-2 : tie.Need-mul-result-2
-mul-result-2 c = omega (arith, c .indicator .ensures, bit-le (mask (c .before .before .before .before .before .get .result)) (c .before .before .before .before .before .before .before .args .u))
+mul-result-2 c = omega (arith, one c)
 
 add-result-3 : tie.Need-add-result-3
-add-result-3 c = omega (arith, c .indicator .ensures, bit-le (mask (c .before .before .before .before .before .get .result)) (c .before .before .before .before .before .before .before .args .u), c .before .size .ensures .1, c .before .before .before .before .before .before .before .pre .0 .slack)
+add-result-3 c = omega (arith, one c, c .before .size .ensures .1, read c .before .before .pre .0 .slack)
 
 returns : tie.Need-returns
 returns c =
-    close-test _ _ _ _ _ _ _ _ _ _ _ _ (c .before .before .before .before .before .get .ensures) (c .before .before .before .before .get2 .ensures) (c .before .before .before .meet .ensures) (c .before .before .meet2 .ensures) (c .before .size .ensures .0) (c .indicator .ensures)
+    let met = c .before .before in
+    close-test _ _ _ _ _ _ (read c .get .ensures) (met .before .before .get2 .ensures) (met .before .meet .ensures) (met .meet2 .ensures)
+    (c .before .size .ensures .0) (c .indicator .ensures)
 
 pub is-close-spec : {M : Type 1} → statement M
 is-close-spec =
     tie.close
-    (tie.spec
-    get-requires
-    get-requires-2
-    meet-requires
-    meet-requires-2
-    size-requires
-    add-result
-    mul-result
-    add-result-2
-    indicator-requires
-    mul-result-2
-    add-result-3
-    returns)
+    (tie.spec get-requires get-requires-2 meet-requires meet-requires-2 size-requires add-result mul-result add-result-2 indicator-requires
+    mul-result-2 add-result-3 returns)

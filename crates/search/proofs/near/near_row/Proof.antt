@@ -1,4 +1,4 @@
--- `search::near::near_row` meets its contract: the reach row is found first, and sifted by pairs where they are switched on.
+-- The reach row is found first, and sifted by pairs where they are switched on: that is how the definition gives the row.
 use mathlib.Core.Path.{sym}
 use borrow.Author.Needs.{needs}
 use Rattle.sets.specs.SizeLaws.{and-below}

@@ -1,4 +1,4 @@
--- `search::near::reach_row` meets its contract: the switch chooses one of two rows.
+-- The switch chooses one of two rows: the reach, or all vertices.
 use mathlib.Core.Path.{ap, _∙_}
 use borrow.Author.Needs.{needs}
 use Rattle.sets.specs.Set.{full}

@@ -1,4 +1,4 @@
--- `search::partition::keep` meets its contract: u is added or not.
+-- Either u is added to what was kept or nothing is, and both are parts of what was kept with u.
 use borrow.Author.Needs.{needs}
 use Rattle.sets.specs.SubsetLaws.{sub-refl, sub-with}
 use Rattle.search.proofs.partition.keep.Statement.{statement}

@@ -1,21 +1,31 @@
--- `search::partition::pick` meets its contract: each member passed is dropped or kept, and best is the one passed that misses most, if that is more than k.
+-- Each member passed is dropped or kept, and best is the one passed that misses most, if that is more than k.
+use Prim.Native.Nat.{_<_}
 use Rattle.sets.specs.Words.{mask, masks}
-use Rattle.sets.specs.WalkLaws.{walk-falls, walk-member, walk-below, walk-goes-on}
-use Rattle.search.specs.PartitionLaws.{Picking, picking-none, picking-pass, picking-keep, picking-best, picked}
+use Rattle.sets.specs.WalkLaws.{walk-falls, walk-below, walk-goes-on}
+use Rattle.search.specs.PartitionLaws.{Picking, picking-none, picking-same, picking-more, picking-all}
 use Rattle.search.proofs.partition.pick.Statement.{statement}
 use Rattle.search.proofs.partition.pick.Tie as tie
 
 abbrev Inv-loop : tie.InvT-loop
-Inv-loop rows k r best₀ most₀ kept₀ todo₀ best most kept todo = Picking (masks rows) k (mask r) (mask todo₀) (mask todo) (mask kept) best most
+Inv-loop rows k r best₀ most₀ kept₀ todo₀ best most kept todo =
+    Picking (masks rows) k (mask r) (mask todo₀) (mask todo) (mask kept) best most
 
 abbrev μ-loop : tie.MeasureT-loop
 μ-loop rows k r best₀ most₀ kept₀ todo₀ best most kept todo = mask todo
+
+-- the loop's record at this turn
+abbrev turn : tie.After-lowest Inv-loop μ-loop → tie.At-loop Inv-loop μ-loop
+turn c = c .before .before .before
+
+-- what is to come falls
+falls : (c : tie.After-rest Inv-loop μ-loop) → mask (c .rest .result) < mask (turn (c .before) .loop .todo)
+falls c = walk-falls _ _ _ (c .before .lowest .ensures) (c .rest .ensures)
 
 empty-requires : tie.Need-empty-requires Inv-loop μ-loop
 empty-requires c κs = tt
 
 loop-holds : tie.Need-loop-holds Inv-loop μ-loop
-loop-holds c = picking-none _ _ _ _ _ (c .empty .ensures)
+loop-holds c = picking-none (c .empty .ensures)
 
 is-empty-requires : tie.Need-is-empty-requires Inv-loop μ-loop
 is-empty-requires c κs = tt
@@ -27,50 +37,39 @@ rest-requires : tie.Need-rest-requires Inv-loop μ-loop
 rest-requires c κs = c .lowest .ensures
 
 missing-requires : tie.Need-missing-requires Inv-loop μ-loop
-missing-requires c κs = walk-below _ _ _ _ (c .before .before .before .before .before .before .before .pre) (c .before .before .before .before .loop .inv .part) (c .before .lowest .ensures)
+missing-requires c κs =
+    let at = turn (c .before) in
+    walk-below _ _ _ _ (at .before .before .before .pre) (at .loop .inv .part) (c .before .lowest .ensures)
 
 keep-requires : tie.Need-keep-requires Inv-loop μ-loop
 keep-requires c κs = c .before .before .lowest .ensures .fits
 
 loop-less : tie.Need-loop-less Inv-loop μ-loop
-loop-less c = walk-falls _ _ _ (c .before .before .before .before .lowest .ensures) (c .before .before .before .rest .ensures)
+loop-less c = falls (c .before .before .before)
 
 loop-again : tie.Need-loop-again Inv-loop μ-loop
 loop-again c =
-    picking-best _ _ _ _ _ _ _ _ _ _ (c .before .before .before .before .lowest .ensures .fits) (walk-member _ _ _ (c .before .before .before .before .before .before .before .loop .inv .part) (c .before .before .before .before .lowest .ensures)) (c .before .before .missing .ensures .0)
-    (picking-keep _ _ _ _ _ _ _ _ _ _ (c .before .keep .ensures) (walk-member _ _ _ (c .before .before .before .before .before .before .before .loop .inv .part) (c .before .before .before .before .lowest .ensures))
-    (picking-pass _ _ _ _ _ _ _ _ _ _ (c .before .before .before .rest .ensures) (c .before .before .before .before .before .before .before .loop .inv)))
+    let counted = c .before .before in
+    let at = counted .before .before in
+    picking-more (turn at .loop .inv) (at .lowest .ensures) (counted .before .rest .ensures) (c .before .keep .ensures) (counted .missing .ensures .0)
 
 loop-less-2 : tie.Need-loop-less-2 Inv-loop μ-loop
-loop-less-2 c = walk-falls _ _ _ (c .before .before .before .before .lowest .ensures) (c .before .before .before .rest .ensures)
+loop-less-2 c = falls (c .before .before .before)
 
 loop-again-2 : tie.Need-loop-again-2 Inv-loop μ-loop
 loop-again-2 c =
-    picking-keep _ _ _ _ _ _ _ _ _ _ (c .before .keep .ensures) (walk-member _ _ _ (c .before .before .before .before .before .before .before .loop .inv .part) (c .before .before .before .before .lowest .ensures))
-    (picking-pass _ _ _ _ _ _ _ _ _ _ (c .before .before .before .rest .ensures) (c .before .before .before .before .before .before .before .loop .inv))
+    let rest = c .before .before .before in
+    let at = rest .before in
+    picking-same (turn at .loop .inv) (at .lowest .ensures) (rest .rest .ensures) (c .before .keep .ensures)
 
 without-requires : tie.Need-without-requires Inv-loop μ-loop
 without-requires c κs = c .before .before .loop .inv .fits
 
 returns : tie.Need-returns Inv-loop μ-loop
-returns c = picked _ _ _ _ _ _ _ _ _ (c .without .ensures) (c .before .before .before .loop .inv)
+returns c = picking-all (c .before .before .before .loop .inv) (c .without .ensures)
 
 pub pick-spec : {M : Type 1} → statement M
 pick-spec =
     tie.close
-    (tie.spec
-    Inv-loop
-    μ-loop
-    empty-requires
-    loop-holds
-    is-empty-requires
-    lowest-requires
-    rest-requires
-    missing-requires
-    keep-requires
-    loop-less
-    loop-again
-    loop-less-2
-    loop-again-2
-    without-requires
-    returns)
+    (tie.spec Inv-loop μ-loop empty-requires loop-holds is-empty-requires lowest-requires rest-requires missing-requires keep-requires loop-less
+    loop-again loop-less-2 loop-again-2 without-requires returns)

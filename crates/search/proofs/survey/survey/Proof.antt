@@ -1,16 +1,26 @@
--- `search::survey::survey` meets its contract: each member passed keeps what is known of those before it.
+-- Each member passed keeps what is known of those before it: the most that one misses, a member that misses it, and what is left free.
+use Prim.Native.Nat.{_<_}
 use native.Mathlib.Omega.{arith}
 use Rattle.sets.specs.Words.{mask, masks}
-use Rattle.sets.specs.WalkLaws.{walk-falls, walk-member, walk-below, walk-goes-on, walk-over}
-use Rattle.search.specs.Survey.{Surveyed, survey-none, survey-same, survey-more}
+use Rattle.sets.specs.WalkLaws.{walk-falls, walk-goes-on, walk-over}
+use Rattle.judging.specs.NarrowLaws.{narrowed-vertex}
+use Rattle.search.specs.SurveyLaws.{Finding, finding-none, finding-same, finding-more, finding-all}
 use Rattle.search.proofs.survey.survey.Statement.{statement}
 use Rattle.search.proofs.survey.survey.Tie as tie
 
 abbrev Inv-loop : tie.InvT-loop
-Inv-loop rows k a most₀ worst₀ free₀ left₀ most worst free left = Surveyed (masks rows) k (mask a) (mask left) most worst (mask free)
+Inv-loop rows k a most₀ worst₀ free₀ left₀ most worst free left = Finding (masks rows) k (mask a) (mask left) most worst (mask free)
 
 abbrev μ-loop : tie.MeasureT-loop
 μ-loop rows k a most₀ worst₀ free₀ left₀ most worst free left = mask left
+
+-- the loop's record at this turn
+abbrev turn : tie.After-lowest Inv-loop μ-loop → tie.At-loop Inv-loop μ-loop
+turn c = c .before .before .before
+
+-- what is to come falls
+falls : (c : tie.After-rest Inv-loop μ-loop) → mask (c .rest .result) < mask (turn (c .before) .loop .left)
+falls c = walk-falls _ _ _ (c .before .lowest .ensures) (c .rest .ensures)
 
 count-requires : tie.Need-count-requires Inv-loop μ-loop
 count-requires c κs = tt
@@ -22,7 +32,9 @@ minus-requires : tie.Need-minus-requires Inv-loop μ-loop
 minus-requires c κs = tt
 
 loop-holds : tie.Need-loop-holds Inv-loop μ-loop
-loop-holds c = rw (c .minus .ensures, c .before .full .ensures, c .before .before .count .ensures) (survey-none _ _ _ 0)
+loop-holds c =
+    let counted = c .before .before in
+    rw (c .minus .ensures, c .before .full .ensures, counted .count .ensures) (finding-none (counted .before .before .pre .below))
 
 is-empty-requires : tie.Need-is-empty-requires Inv-loop μ-loop
 is-empty-requires c κs = tt
@@ -34,53 +46,43 @@ rest-requires : tie.Need-rest-requires Inv-loop μ-loop
 rest-requires c κs = c .lowest .ensures
 
 missing-requires : tie.Need-missing-requires Inv-loop μ-loop
-missing-requires c κs = walk-below _ _ _ _ (c .before .before .before .before .before .before .before .before .before .pre .below) (c .before .before .before .before .loop .inv .bounded .part) (c .before .lowest .ensures)
+missing-requires c κs = narrowed-vertex (turn (c .before) .loop .inv .narrowed) (c .before .lowest .ensures)
 
 get-requires : tie.Need-get-requires Inv-loop μ-loop
-get-requires c κs = walk-below _ _ _ _ (c .before .before .before .before .before .before .before .before .before .before .pre .below) (c .before .before .before .before .before .loop .inv .bounded .part) (c .before .before .lowest .ensures)
+get-requires c κs =
+    let at = c .before .before in
+    narrowed-vertex (turn at .loop .inv .narrowed) (at .lowest .ensures)
 
 narrow-requires : tie.Need-narrow-requires Inv-loop μ-loop
 narrow-requires c κs = tt
 
 loop-less : tie.Need-loop-less Inv-loop μ-loop
-loop-less c = walk-falls _ _ _ (c .before .before .before .before .before .lowest .ensures) (c .before .before .before .before .rest .ensures)
+loop-less c = falls (c .before .before .before .before)
 
 loop-again : tie.Need-loop-again Inv-loop μ-loop
 loop-again c =
-    survey-more _ _ _ _ _ _ _ _ _ (c .before .before .before .before .rest .ensures) (c .before .before .before .before .before .before .before .before .loop .inv) _ _ _ (c .before .before .before .missing .ensures .0) (c .before .before .get .ensures)
-    (walk-below _ _ _ _ (c .before .before .before .before .before .before .before .before .before .before .before .before .before .pre .below) (c .before .before .before .before .before .before .before .before .loop .inv .bounded .part) (c .before .before .before .before .before .lowest .ensures)) (walk-member _ _ _ (c .before .before .before .before .before .before .before .before .loop .inv .bounded .part) (c .before .before .before .before .before .lowest .ensures))
+    let got = c .before .before in
+    let rest = got .before .before in
+    let at = rest .before in
+    finding-more (turn at .loop .inv) (at .lowest .ensures) (rest .rest .ensures) (got .before .missing .ensures .0) (got .get .ensures)
     (c .before .narrow .ensures) (c .if2 .taken)
 
 loop-less-2 : tie.Need-loop-less-2 Inv-loop μ-loop
-loop-less-2 c = walk-falls _ _ _ (c .before .before .before .before .before .lowest .ensures) (c .before .before .before .before .rest .ensures)
+loop-less-2 c = falls (c .before .before .before .before)
 
 loop-again-2 : tie.Need-loop-again-2 Inv-loop μ-loop
 loop-again-2 c =
-    survey-same _ _ _ _ _ _ _ _ _ (c .before .before .before .before .rest .ensures) (c .before .before .before .before .before .before .before .before .loop .inv) _ _ _ (c .before .before .before .missing .ensures .0) (c .before .before .get .ensures)
-    (walk-below _ _ _ _ (c .before .before .before .before .before .before .before .before .before .before .before .before .before .pre .below) (c .before .before .before .before .before .before .before .before .loop .inv .bounded .part) (c .before .before .before .before .before .lowest .ensures)) (walk-member _ _ _ (c .before .before .before .before .before .before .before .before .loop .inv .bounded .part) (c .before .before .before .before .before .lowest .ensures))
+    let got = c .before .before in
+    let rest = got .before .before in
+    let at = rest .before in
+    finding-same (turn at .loop .inv) (at .lowest .ensures) (rest .rest .ensures) (got .before .missing .ensures .0) (got .get .ensures)
     (c .before .narrow .ensures) (c .if2 .left)
 
 returns : tie.Need-returns Inv-loop μ-loop
-returns c = rw (walk-over (c .before .is-empty .result) (mask (c .before .before .loop .left)) (c .before .is-empty .ensures) (c .if1 .left)) at (c .before .before .loop .inv)
+returns c = finding-all (walk-over _ _ (c .before .is-empty .ensures) (c .if1 .left)) (c .before .before .loop .inv)
 
 pub survey-spec : {M : Type 1} → statement M
 survey-spec =
     tie.close
-    (tie.spec
-    Inv-loop
-    μ-loop
-    count-requires
-    full-requires
-    minus-requires
-    loop-holds
-    is-empty-requires
-    lowest-requires
-    rest-requires
-    missing-requires
-    get-requires
-    narrow-requires
-    loop-less
-    loop-again
-    loop-less-2
-    loop-again-2
-    returns)
+    (tie.spec Inv-loop μ-loop count-requires full-requires minus-requires loop-holds is-empty-requires lowest-requires rest-requires missing-requires
+    get-requires narrow-requires loop-less loop-again loop-less-2 loop-again-2 returns)

@@ -1,54 +1,50 @@
--- `search::trim::beside` meets its contract: near rows first, and then the two drops.
+-- The candidates outside the near row of v go first, and then the two drops take out what is blocked and what misses too much.
 use native.Mathlib.Omega.{arith}
-use mathlib.Core.Path.{ap₂, _∙_}
-use lib.Bits.{bitAnd}
+use denote.Ref.{now}
+use Rattle.sets.specs.Words.{mask, masks}
+use Rattle.search.specs.Trim.{Trimmable}
 use Rattle.search.specs.TrimLaws.{joinable-vertex, near-trimmable, still-trimmable, beside-all}
 use borrow.Author.Needs.{needs}
 use Rattle.search.proofs.trim.beside.Statement.{statement}
 use Rattle.search.proofs.trim.beside.Tie as tie
 
+-- the place where v has joined s, and the entry
+abbrev joined : tie.After-meet → tie.After-with
+joined c = c .before .before .before
+
+abbrev start : tie.After-with → tie.Start
+start c = c .before .before .before
+
+trimmable : (c : tie.After-meet)
+    → Trimmable (masks (now (start (joined c) .args .rows))) (mask (joined c .with .result)) (mask (c .meet .result)) (start (joined c) .args .v)
+trimmable c =
+    near-trimmable (start (joined c) .pre) (joined c .with .ensures) (c .before .before .without .ensures) (c .before .get .ensures) (c .meet .ensures)
+
 with-requires : tie.Need-with-requires
-with-requires c κs = omega (arith, joinable-vertex _ _ _ _ _ (c .before .before .pre))
+with-requires c κs = omega (arith, joinable-vertex (c .before .before .pre))
 
 without-requires : tie.Need-without-requires
-without-requires c κs = omega (arith, joinable-vertex _ _ _ _ _ (c .before .before .before .pre))
+without-requires c κs = omega (arith, joinable-vertex (start c .pre))
 
 get-requires : tie.Need-get-requires
-get-requires c κs = omega (arith, joinable-vertex _ _ _ _ _ (c .before .before .before .before .pre))
+get-requires c κs = omega (arith, joinable-vertex (start (c .before) .pre))
 
 meet-requires : tie.Need-meet-requires
 meet-requires c κs = search needs
 
 drop-blocked-requires : tie.Need-drop-blocked-requires
-drop-blocked-requires c κs =
-    let joined = c .before .before .before in
-    near-trimmable _ _ _ _ _ (joined .before .before .before .pre) _ _ (joined .with .ensures)
-    (c .meet .ensures ∙ ap₂ bitAnd (c .before .before .without .ensures) (c .before .get .ensures))
+drop-blocked-requires c κs = trimmable c
 
 drop-missing-requires : tie.Need-drop-missing-requires
-drop-missing-requires c κs =
-    let met = c .before in
-    let joined = met .before .before .before in
-    still-trimmable _ _ _ _ _ _
-    (near-trimmable _ _ _ _ _ (joined .before .before .before .pre) _ _ (joined .with .ensures)
-    (met .meet .ensures ∙ ap₂ bitAnd (met .before .before .without .ensures) (met .before .get .ensures))) (c .drop-blocked .ensures)
+drop-missing-requires c κs = still-trimmable (trimmable (c .before)) (c .drop-blocked .ensures)
 
 returns : tie.Need-returns
 returns c =
     let met = c .before .before in
-    let joined = met .before .before .before in
-    beside-all _ _ _ _ _ (joined .before .before .before .pre) _ _ (joined .with .ensures)
-    (met .meet .ensures ∙ ap₂ bitAnd (met .before .before .without .ensures) (met .before .get .ensures))
-    _ _ _ (c .before .drop-blocked .ensures) (c .drop-missing .ensures)
+    beside-all (start (joined met) .pre) (joined met .with .ensures) (met .before .before .without .ensures) (met .before .get .ensures)
+    (met .meet .ensures) (c .before .drop-blocked .ensures) (c .drop-missing .ensures)
 
 pub beside-spec : {M : Type 1} → statement M
 beside-spec =
     tie.close
-    (tie.spec
-    with-requires
-    without-requires
-    get-requires
-    meet-requires
-    drop-blocked-requires
-    drop-missing-requires
-    returns)
+    (tie.spec with-requires without-requires get-requires meet-requires drop-blocked-requires drop-missing-requires returns)

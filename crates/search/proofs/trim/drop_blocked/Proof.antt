@@ -1,20 +1,31 @@
--- `search::trim::drop_blocked` meets its contract: what is dropped at each step is in no plex that holds s.
+-- The candidates are narrowed by the row of each member that v is not adjacent to and that misses k or more: what goes is in no plex that holds s.
+use Prim.Native.Nat.{_<_}
 use native.Mathlib.Omega.{arith}
 use mathlib.Core.Path.{ap, _∙_}
 use lib.Bits.{bitAnd}
+use Rattle.sets.specs.Set.{minus}
+use Rattle.sets.specs.Graph.{row}
 use Rattle.sets.specs.Words.{mask, masks}
-use Rattle.sets.specs.SubsetLaws.{in-of-sub, minus-sub}
-use Rattle.sets.specs.SizeLaws.{minus-below}
-use Rattle.sets.specs.WalkLaws.{walk-falls, walk-member, walk-below, walk-goes-on, walk-over}
-use Rattle.search.specs.TrimLaws.{Blocking, blocking-none, blocking-same, blocking-meet, blocking-all}
+use Rattle.sets.specs.WalkLaws.{walk-falls, walk-goes-on, walk-over}
+use Rattle.judging.specs.NarrowLaws.{Narrowed, narrowed-vertex, narrowed-same, narrowed-more}
+use Rattle.search.specs.TrimLaws.{drops-blocked-none, drops-blocked-all}
 use Rattle.search.proofs.trim.drop_blocked.Statement.{statement}
 use Rattle.search.proofs.trim.drop_blocked.Tie as tie
 
 abbrev Inv-loop : tie.InvT-loop
-Inv-loop rows k s v kept₀ left₀ kept left = Blocking (masks rows) k (mask s) v (mask kept₀) (mask left) (mask kept)
+Inv-loop rows k s v kept₀ left₀ kept left =
+    Narrowed (masks rows) k (mask s) (minus (mask s) (row (masks rows) v)) (mask kept₀) (mask left) (mask kept)
 
 abbrev μ-loop : tie.MeasureT-loop
 μ-loop rows k s v kept₀ left₀ kept left = mask left
+
+-- the loop's record at this turn
+abbrev turn : tie.After-lowest Inv-loop μ-loop → tie.At-loop Inv-loop μ-loop
+turn c = c .before .before .before
+
+-- what is to come falls
+falls : (c : tie.After-rest Inv-loop μ-loop) → mask (c .rest .result) < mask (turn (c .before) .loop .left)
+falls c = walk-falls _ _ _ (c .before .lowest .ensures) (c .rest .ensures)
 
 get-requires : tie.Need-get-requires Inv-loop μ-loop
 get-requires c κs = c .before .pre .vertex
@@ -23,7 +34,7 @@ minus-requires : tie.Need-minus-requires Inv-loop μ-loop
 minus-requires c κs = tt
 
 loop-holds : tie.Need-loop-holds Inv-loop μ-loop
-loop-holds c = rw (c .minus .ensures, c .before .get .ensures) (blocking-none _ _ _ _ _ (c .before .before .before .pre))
+loop-holds c = rw (c .minus .ensures, c .before .get .ensures) (drops-blocked-none (c .before .before .before .pre))
 
 is-empty-requires : tie.Need-is-empty-requires Inv-loop μ-loop
 is-empty-requires c κs = tt
@@ -35,61 +46,43 @@ rest-requires : tie.Need-rest-requires Inv-loop μ-loop
 rest-requires c κs = c .lowest .ensures
 
 missing-requires : tie.Need-missing-requires Inv-loop μ-loop
-missing-requires c κs =
-    let turn = c .before .before .before .before in
-    walk-below _ _ _ _ (minus-below _ _ _ (turn .before .before .before .before .pre .below)) (turn .loop .inv .walked .part) (c .before .lowest .ensures)
+missing-requires c κs = narrowed-vertex (turn (c .before) .loop .inv) (c .before .lowest .ensures)
 
 get-requires-2 : tie.Need-get-requires-2 Inv-loop μ-loop
 get-requires-2 c κs =
-    let lowest = c .before .before .before in
-    let turn = lowest .before .before .before in
-    walk-below _ _ _ _ (minus-below _ _ _ (turn .before .before .before .before .pre .below)) (turn .loop .inv .walked .part) (lowest .lowest .ensures)
+    let at = c .before .before .before in
+    narrowed-vertex (turn at .loop .inv) (at .lowest .ensures)
 
 meet-requires : tie.Need-meet-requires Inv-loop μ-loop
 meet-requires c κs = tt
 
 loop-less : tie.Need-loop-less Inv-loop μ-loop
-loop-less c = walk-falls _ _ _ (c .before .before .before .before .before .lowest .ensures) (c .before .before .before .before .rest .ensures)
+loop-less c = falls (c .before .before .before .before)
 
 loop-again : tie.Need-loop-again Inv-loop μ-loop
 loop-again c =
     let rest = c .before .before .before .before in
-    let turn = rest .before .before .before .before in
-    blocking-meet _ _ _ _ _ (turn .before .before .before .before .pre) _ _ _ _ (rest .rest .ensures) (turn .loop .inv)
-    _ (c .meet .ensures ∙ ap (bitAnd (mask _)) (c .before .get2 .ensures))
-    (in-of-sub _ _ _ (minus-sub _ _) (walk-member _ _ _ (turn .loop .inv .walked .part) (rest .before .lowest .ensures))) (omega arith)
+    let at = rest .before in
+    narrowed-more (turn at .loop .inv) (at .lowest .ensures) (rest .rest .ensures)
+    (c .meet .ensures ∙ ap (bitAnd (mask _)) (c .before .get2 .ensures)) (omega arith)
 
 loop-less-2 : tie.Need-loop-less-2 Inv-loop μ-loop
-loop-less-2 c = walk-falls _ _ _ (c .before .before .before .lowest .ensures) (c .before .before .rest .ensures)
+loop-less-2 c = falls (c .before .before)
 
 loop-again-2 : tie.Need-loop-again-2 Inv-loop μ-loop
 loop-again-2 c =
-    let turn = c .before .before .before .before .before .before in
-    blocking-same _ _ _ _ _ (turn .before .before .before .before .pre) _ _ _ _ (c .before .before .rest .ensures) (turn .loop .inv) (omega arith)
+    let rest = c .before .before in
+    let at = rest .before in
+    narrowed-same (turn at .loop .inv) (at .lowest .ensures) (rest .rest .ensures) (omega arith)
 
 returns : tie.Need-returns Inv-loop μ-loop
 returns c =
     let end = c .before .before in
-    let none = walk-over _ _ (c .before .is-empty .ensures) (c .if1 .left) in
-    record { kept = end .loop .inv .kept; blocked = blocking-all _ _ _ _ _ (end .before .before .before .before .pre) _ _ none (end .loop .inv) }
+    let start = end .before .before .before .before in
+    drops-blocked-all (start .pre) (walk-over _ _ (c .before .is-empty .ensures) (c .if1 .left)) (end .loop .inv)
 
 pub drop-blocked-spec : {M : Type 1} → statement M
 drop-blocked-spec =
     tie.close
-    (tie.spec
-    Inv-loop
-    μ-loop
-    get-requires
-    minus-requires
-    loop-holds
-    is-empty-requires
-    lowest-requires
-    rest-requires
-    missing-requires
-    get-requires-2
-    meet-requires
-    loop-less
-    loop-again
-    loop-less-2
-    loop-again-2
-    returns)
+    (tie.spec Inv-loop μ-loop get-requires minus-requires loop-holds is-empty-requires lowest-requires rest-requires missing-requires get-requires-2
+    meet-requires loop-less loop-again loop-less-2 loop-again-2 returns)

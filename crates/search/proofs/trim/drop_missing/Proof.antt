@@ -1,16 +1,27 @@
--- `search::trim::drop_missing` meets its contract: what is dropped at each step is in no plex that holds s.
+-- Of the candidates that v is not adjacent to those are dropped that miss k or more of s: no plex that holds s has such a one.
+use mathlib.Core.Path.{ap}
+use lib.Dec.{leb}
+use lib.ListN.{length}
+use Rattle.sets.specs.Set.{minus}
+use Rattle.sets.specs.Graph.{row}
 use Rattle.sets.specs.Words.{mask, masks}
-use Rattle.sets.specs.SizeLaws.{minus-below}
-use Rattle.sets.specs.WalkLaws.{walk-falls, walk-below, walk-goes-on, walk-over}
-use Rattle.search.specs.TrimLaws.{Cheapening, cheapening-none, cheapening-next, cheapening-all}
+use Rattle.sets.specs.WalkLaws.{walk-falls, walk-goes-on, walk-over}
+use Rattle.search.specs.DropLaws.{Dropping, dropping-vertex, dropping-next}
+use Rattle.search.specs.TrimLaws.{costly, drops-missing-none, drops-missing-all}
 use Rattle.search.proofs.trim.drop_missing.Statement.{statement}
 use Rattle.search.proofs.trim.drop_missing.Tie as tie
 
 abbrev Inv-loop : tie.InvT-loop
-Inv-loop rows k s v kept₀ left₀ kept left = Cheapening (masks rows) k (mask s) v (mask kept₀) (mask left) (mask kept)
+Inv-loop rows k s v kept₀ left₀ kept left =
+    let g = masks rows in
+    Dropping (length g) (costly g k (mask s)) (mask kept₀) (minus (mask kept₀) (row g v)) (mask left) (mask kept)
 
 abbrev μ-loop : tie.MeasureT-loop
 μ-loop rows k s v kept₀ left₀ kept left = mask left
+
+-- the loop's record at this turn
+abbrev turn : tie.After-lowest Inv-loop μ-loop → tie.At-loop Inv-loop μ-loop
+turn c = c .before .before .before
 
 get-requires : tie.Need-get-requires Inv-loop μ-loop
 get-requires c κs = c .before .pre .vertex
@@ -19,7 +30,7 @@ minus-requires : tie.Need-minus-requires Inv-loop μ-loop
 minus-requires c κs = tt
 
 loop-holds : tie.Need-loop-holds Inv-loop μ-loop
-loop-holds c = rw (c .minus .ensures, c .before .get .ensures) (cheapening-none _ _ _ _ _ (c .before .before .before .pre))
+loop-holds c = rw (c .minus .ensures, c .before .get .ensures) (drops-missing-none (c .before .before .before .pre) _)
 
 is-empty-requires : tie.Need-is-empty-requires Inv-loop μ-loop
 is-empty-requires c κs = tt
@@ -31,38 +42,30 @@ rest-requires : tie.Need-rest-requires Inv-loop μ-loop
 rest-requires c κs = c .lowest .ensures
 
 missing-requires : tie.Need-missing-requires Inv-loop μ-loop
-missing-requires c κs = walk-below _ _ _ _ (minus-below _ _ _ (c .before .before .before .before .before .before .before .before .pre .candidates)) (c .before .before .before .before .loop .inv .walked .part) (c .before .lowest .ensures)
+missing-requires c κs = dropping-vertex (turn (c .before) .loop .inv) (c .before .lowest .ensures)
 
 without-if-requires : tie.Need-without-if-requires Inv-loop μ-loop
 without-if-requires c κs = c .before .before .lowest .ensures .fits
 
 loop-less : tie.Need-loop-less Inv-loop μ-loop
-loop-less c = walk-falls _ _ _ (c .before .before .before .lowest .ensures) (c .before .before .rest .ensures)
+loop-less c =
+    let rest = c .before .before in
+    walk-falls _ _ _ (rest .before .lowest .ensures) (rest .rest .ensures)
 
 loop-again : tie.Need-loop-again Inv-loop μ-loop
-loop-again c = cheapening-next _ _ _ _ _ (c .before .before .before .before .before .before .before .before .before .before .pre) _ _ _ _ (c .before .before .rest .ensures) (c .before .before .before .before .before .before .loop .inv) _ _ (c .before .missing .ensures .0) (c .without-if .ensures)
+loop-again c =
+    let rest = c .before .before in
+    let at = rest .before in
+    dropping-next (turn at .loop .inv) (at .lowest .ensures) _ (rest .rest .ensures) (ap (leb _) (c .before .missing .ensures .0)) (c .without-if .ensures)
 
 returns : tie.Need-returns Inv-loop μ-loop
 returns c =
-    record {
-      kept = c .before .before .loop .inv .kept;
-      cheap = cheapening-all _ _ _ _ _ (c .before .before .before .before .before .before .pre) _ _ (walk-over _ _ (c .before .is-empty .ensures) (c .if1 .left)) (c .before .before .loop .inv);
-    }
+    let end = c .before .before in
+    let start = end .before .before .before .before in
+    drops-missing-all (start .pre) _ (walk-over _ _ (c .before .is-empty .ensures) (c .if1 .left)) (end .loop .inv)
 
 pub drop-missing-spec : {M : Type 1} → statement M
 drop-missing-spec =
     tie.close
-    (tie.spec
-    Inv-loop
-    μ-loop
-    get-requires
-    minus-requires
-    loop-holds
-    is-empty-requires
-    lowest-requires
-    rest-requires
-    missing-requires
-    without-if-requires
-    loop-less
-    loop-again
-    returns)
+    (tie.spec Inv-loop μ-loop get-requires minus-requires loop-holds is-empty-requires lowest-requires rest-requires missing-requires
+    without-if-requires loop-less loop-again returns)

@@ -1,4 +1,4 @@
--- `search::trim::fewer` meets its contract: nothing is taken off 0.
+-- Nothing is taken off 0, and one off any other number.
 use native.Mathlib.Omega.{arith}
 use borrow.Author.Needs.{needs}
 use Rattle.search.proofs.trim.fewer.Statement.{statement}
