@@ -26,7 +26,7 @@ use Rattle.lists.specs.Listing.{listed}
 use Rattle.lists.specs.ListingLaws.{listed-holds, listed-test}
 use Rattle.lists.specs.Placing.{Apart, union}
 use Rattle.search.specs.Found.{found, Found, Empty, Short}
-use Rattle.search.specs.TrimLaws.{Kept, Beside}
+use Rattle.search.specs.Trim.{Kept, Beside}
 
 -- ---- the test and the statement
 

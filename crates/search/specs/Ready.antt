@@ -23,7 +23,7 @@ use Rattle.judging.specs.Setting.{Sized}
 use Rattle.lists.specs.Placing.{only, Adds}
 use Rattle.lists.specs.PlacingLaws.{adds-none, adds-same}
 use Rattle.search.specs.Found.{Compatible, Near}
-use Rattle.search.specs.TrimLaws.{Beside}
+use Rattle.search.specs.Trim.{Beside}
 
 pub record Settled (g t : List ℕ) (ask : Request) : Type 0 where
   pub sized : Sized g

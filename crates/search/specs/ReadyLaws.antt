@@ -26,8 +26,9 @@ use Rattle.search.specs.Found.{found, Empty, Compatible, Short}
 use Rattle.search.specs.FoundLaws.{found-holds, found-test, cut-none, short-empty, stuck-empty, extendable-empty, leaf-found, leaf-only}
 use Rattle.search.specs.FoundLaws.{branches, branches-apart, branch-without}
 use Rattle.search.specs.Partition.{Between}
-use Rattle.search.specs.TrimLaws.{Joinable, Beside, trimmed-compatible}
-use Rattle.search.specs.SiftLaws.{Siftable}
+use Rattle.search.specs.TrimLaws.{trimmed-compatible}
+use Rattle.search.specs.Trim.{Joinable, Beside}
+use Rattle.search.specs.Sift.{Siftable}
 use Rattle.search.specs.Ready.{Ready, Whole, Split, unless}
 
 -- ---- what the callees ask of a candidate v

@@ -14,7 +14,7 @@ use Rattle.search.specs.Trim.{Kept, Beside}
 use Rattle.search.specs.TrimLaws.{kept-trans}
 use Rattle.search.specs.NearRows.{pairRow, Pairable}
 use Rattle.search.specs.NearRowsLaws.{pair-row-part, pair-row-in}
-pub use Rattle.search.specs.Sift.{Siftable}
+use Rattle.search.specs.Sift.{Siftable}
 
 module _ {g : List ℕ} {ask : Request} {s c v d : ℕ} (h : Siftable g ask s c v d) where
   pub sift-vertex : v < length g

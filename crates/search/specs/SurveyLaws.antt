@@ -12,6 +12,7 @@ use Rattle.sets.specs.Words.{Lowest}
 use Rattle.sets.specs.Graph.{row}
 use Rattle.sets.specs.WalkLaws.{Walked, walk-none, walk-next, walk-map, walk-all, walk-member}
 use Rattle.judging.specs.Graph.{missing}
+use Rattle.judging.specs.Plex.{Plex}
 use Rattle.judging.specs.NarrowLaws.{Narrowed, narrowed-none, narrowed-next, narrowed-unblocked}
 use Rattle.search.specs.Survey.{Finds}
 
@@ -45,3 +46,7 @@ module _ {g : List ℕ} {k a left most worst free v rest n b p : ℕ} (h : Findi
 pub finding-all : {g : List ℕ} {k a left most worst free : ℕ} → left ≡ 0 → Finding g k a left most worst free → Finds g k a most worst free
 finding-all {a = a} {left = left} z h =
     record { bounded = walk-all _ a left z (h .bounded); reached = h .reached; opened = narrowed-unblocked z (h .narrowed) }
+
+-- where no member misses more than k the set is a plex
+pub finds-plex : {g : List ℕ} {k a most worst free : ℕ} → Finds g k a most worst free → most ≤ k → Plex g k a
+finds-plex h l v lv e = omega (arith, h .bounded v e)

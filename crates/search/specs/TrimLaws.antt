@@ -24,7 +24,7 @@ use Rattle.judging.specs.NarrowLaws.{Narrowed, narrowed-none, narrowed-all}
 use Rattle.search.specs.Found.{Found, Compatible, Near}
 use Rattle.search.specs.Trim.{Blocked, Cheap, Trimmable, DropsBlocked, DropsMissing}
 use Rattle.search.specs.DropLaws.{Dropping, dropping-none, dropping-all}
-pub use Rattle.search.specs.Trim.{Kept, Joinable, Beside}
+use Rattle.search.specs.Trim.{Kept, Joinable, Beside}
 
 -- ---- what is kept
 

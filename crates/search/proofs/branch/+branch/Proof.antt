@@ -12,7 +12,7 @@ use Rattle.sets.specs.Set as sets
 use Rattle.sets.specs.Words.{mask, masks}
 use Rattle.sets.specs.SubsetLaws.{in-below, in-of-sub, sub-below, positive-of}
 use Rattle.judging.specs.Request.{request}
-use Rattle.search.specs.Survey.{survey-plex, survey-free}
+use Rattle.search.specs.SurveyLaws.{finds-plex}
 use Rattle.search.specs.Ready.{Whole, Split}
 use Rattle.search.specs.ReadyLaws.{ready-vertex, ready-joinable, ready-siftable, whole-inside, whole-between}
 use Rattle.search.specs.ReadyLaws.{short-adds, extendable-adds, stuck-adds, leaf-adds}
@@ -146,7 +146,7 @@ module _ (t : ℕ) where
       let seen = c .before .before .before .before in
       record {
         below = whole-inside (whole (joined seen)) .below;
-        unblocking = survey-free _ _ _ 0 _ _ _ refl (seen .survey .ensures);
+        unblocking = seen .survey .ensures .opened;
       }
 
   same-length : branch-lts.Need-same-length (calls t) (branch-at t) branch.Post
@@ -158,11 +158,11 @@ module _ (t : ℕ) where
       let few = done .before .before in
       let seen = few .before .before .before in
       let large = seen .before .before .is-short .ensures .1 (seen .before .if1 .left) in
-      let plex = survey-plex _ _ _ 0 _ _ _ refl (seen .survey .ensures) (few .if2 .taken) in
+      let plex = finds-plex (seen .survey .ensures) (few .if2 .taken) in
       leaf-adds (whole (joined seen)) plex large (done .leaf .ensures)
 
   is-extendable-requires : branch-lts.Need-is-extendable-requires (calls t) (branch-at t) branch.Post
-  is-extendable-requires c κs = survey-free _ _ _ 0 _ _ _ refl (c .before .before .before .survey .ensures)
+  is-extendable-requires c κs = c .before .before .before .survey .ensures .opened
 
   returns-3 : branch-lts.Need-returns-3 (calls t) (branch-at t) branch.Post
   returns-3 c =
