@@ -27,7 +27,7 @@ use Rattle.search.specs.FoundLaws.{found-holds, found-test, cut-none, sh
 use Rattle.search.specs.FoundLaws.{branches, branches-apart, branch-without}
 use Rattle.search.specs.Partition.{Between}
 use Rattle.search.specs.TrimLaws.{trimmed-compatible}
-use Rattle.search.specs.Trim.{Joinable, Beside}
+use Rattle.search.specs.Trim.{Trimmable, Joinable, Beside}
 use Rattle.search.specs.Sift.{Siftable}
 use Rattle.search.specs.Ready.{Ready, Whole, Split, unless}
 
@@ -37,29 +37,27 @@ module _ {g t : List ℕ} {ask : Request} {s c : ℕ} (h : Ready g t ask s c) (v
   pub ready-vertex : v < length g
   ready-vertex = in-below (length g) c v (h .fine .candidates) i
 
-  pub ready-joinable : Joinable g t s c v
-  ready-joinable =
+  ready-trimmable : Trimmable g s c v
+  ready-trimmable =
       record {
         most = h .settled .sized .most;
-        long = h .settled .long;
         valid = h .settled .valid;
         below = h .fine .below;
         candidates = h .fine .candidates;
         apart = h .fine .apart;
-        member = i;
+        vertex = ready-vertex;
       }
+
+  pub ready-joinable : Joinable g t s c v
+  ready-joinable = record { trimmable = ready-trimmable; member = i; long = h .settled .long }
 
   pub ready-siftable : {d : ℕ} → Beside g ask s c v d → Siftable g ask s c v d
   ready-siftable b =
       record {
+        trimmable = ready-trimmable;
         some = h .settled .sized .some;
-        most = h .settled .sized .most;
-        valid = h .settled .valid;
         slack = omega (arith, h .settled .slack .1);
         floor = h .settled .floor;
-        below = h .fine .below;
-        candidates = h .fine .candidates;
-        member = i;
         beside = b;
       }
 

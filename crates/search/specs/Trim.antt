@@ -50,13 +50,9 @@ pub record DropsMissing (g : List ℕ) (k s v c r : ℕ) : Type 0 where
 -- ---- a candidate joins
 
 pub record Joinable (g t : List ℕ) (s c v : ℕ) : Type 0 where
-  pub most : length g ≤ width
-  pub long : length g ≤ length t
-  pub valid : Valid g
-  pub below : s < 2 ^ length g
-  pub candidates : c < 2 ^ length g
-  pub apart : (w : ℕ) → In w c → bit s w ≡ 0
+  pub trimmable : Trimmable g s c v
   pub member : In v c
+  pub long : length g ≤ length t
 
 pub record Beside (g : List ℕ) (ask : Request) (s c v r : ℕ) : Type 0 where
   pub kept : Kept g ask (with s v) (without c v) r

@@ -133,20 +133,17 @@ apart-with s c v apart w i =
     omega (arith, bit-with s v w, apart w inc, bit-minus c (2 ^ v) w)
 
 module _ {g t : List ℕ} {s c v : ℕ} (h : Joinable g t s c v) where
-  pub joinable-vertex : v < length g
-  joinable-vertex = in-below (length g) c v (h .candidates) (h .member)
-
   -- v joins s, and the candidates are met with its near row
   module _ {j o n d : ℕ} (e : j ≡ with s v) (f : o ≡ without c v) (y : n ≡ row t v) (x : d ≡ bitAnd o n) where
     pub near-trimmable : Trimmable g j d v
     near-trimmable =
         rw (e, x, f, y) (record {
-          most = h .most;
-          valid = h .valid;
-          below = with-below (length g) s v (h .below) joinable-vertex;
-          candidates = and-below (length g) (without c v) (row t v) (minus-below (length g) c (2 ^ v) (h .candidates));
-          apart = λ w i. apart-with s c v (h .apart) w (omega (arith, bit-and (without c v) (row t v) w, bit-le (without c v) w));
-          vertex = joinable-vertex;
+          most = h .trimmable .most;
+          valid = h .trimmable .valid;
+          below = with-below (length g) s v (h .trimmable .below) (h .trimmable .vertex);
+          candidates = and-below (length g) (without c v) (row t v) (minus-below (length g) c (2 ^ v) (h .trimmable .candidates));
+          apart = λ w i. apart-with s c v (h .trimmable .apart) w (omega (arith, bit-and (without c v) (row t v) w, bit-le (without c v) w));
+          vertex = h .trimmable .vertex;
         })
 
     pub beside-all : {k m r : ℕ} → DropsBlocked g k j v d m → DropsMissing g k j v m r
@@ -159,7 +156,7 @@ module _ {g t : List ℕ} {s c v : ℕ} (h : Joinable g t s c v) where
         }
       where
         first : Kept g ask (with s v) (without c v) d
-        first = rw (x, f, y) (kept-near t (without c v) v joinable-vertex (with-same s v) (without-same c v) near)
+        first = rw (x, f, y) (kept-near t (without c v) v (h .trimmable .vertex) (with-same s v) (without-same c v) near)
 
         a : DropsBlocked g k (with s v) v d m
         a = rw e at unblocked

@@ -3,7 +3,7 @@ use native.Mathlib.Omega.{arith}
 use denote.Ref.{now}
 use Rattle.sets.specs.Words.{mask, masks}
 use Rattle.search.specs.Trim.{Trimmable}
-use Rattle.search.specs.TrimLaws.{joinable-vertex, near-trimmable, still-trimmable, beside-all}
+use Rattle.search.specs.TrimLaws.{near-trimmable, still-trimmable, beside-all}
 use borrow.Author.Needs.{needs}
 use Rattle.search.proofs.trim.beside.Statement.{statement}
 use Rattle.search.proofs.trim.beside.Tie as tie
@@ -21,13 +21,13 @@ trimmable c =
     near-trimmable (start (joined c) .pre) (joined c .with .ensures) (c .before .before .without .ensures) (c .before .get .ensures) (c .meet .ensures)
 
 with-requires : tie.Need-with-requires
-with-requires c κs = omega (arith, joinable-vertex (c .before .before .pre))
+with-requires c κs = omega (arith, c .before .before .pre .trimmable .vertex)
 
 without-requires : tie.Need-without-requires
-without-requires c κs = omega (arith, joinable-vertex (start c .pre))
+without-requires c κs = omega (arith, start c .pre .trimmable .vertex)
 
 get-requires : tie.Need-get-requires
-get-requires c κs = omega (arith, joinable-vertex (start (c .before) .pre))
+get-requires c κs = omega (arith, start (c .before) .pre .trimmable .vertex)
 
 meet-requires : tie.Need-meet-requires
 meet-requires c κs = search needs

@@ -1,6 +1,6 @@
 -- What is sifted out is not close to v, and so is in no listed plex beside s and v.
 use native.Mathlib.Omega.{arith}
-use Rattle.search.specs.SiftLaws.{sift-vertex, sift-below, sift-pairable, sift-beside}
+use Rattle.search.specs.SiftLaws.{sift-below, sift-pairable, sift-beside}
 use Rattle.search.proofs.trim.sift.Statement.{statement}
 use Rattle.search.proofs.trim.sift.Tie as tie
 
@@ -10,7 +10,7 @@ returns c = c .before .before .pre .beside
 with-requires : tie.Need-with-requires
 with-requires c κs =
     let pre = c .before .before .pre in
-    omega (arith, sift-vertex pre, pre .most)
+    omega (arith, pre .trimmable .vertex, pre .trimmable .most)
 
 join-requires : tie.Need-join-requires
 join-requires c κs = tt
@@ -18,7 +18,7 @@ join-requires c κs = tt
 pair-row-requires : tie.Need-pair-row-requires
 pair-row-requires c κs =
     let pre = c .before .before .before .before .pre in
-    (sift-pairable pre (c .before .with .ensures) (c .join .ensures), sift-below pre, sift-vertex pre)
+    (sift-pairable pre (c .before .with .ensures) (c .join .ensures), sift-below pre, pre .trimmable .vertex)
 
 returns-2 : tie.Need-returns-2
 returns-2 c =
