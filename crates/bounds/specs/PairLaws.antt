@@ -24,7 +24,9 @@ module _ (g : List ℕ) (k : ℕ) (ok : Valid g) where
       → size x + 2 ≤ common g s u v + 2 * k + 2 * bit (row g u) v
   unfolding common missing
   pair-common s x u v b p h hu hv ne =
-      omega (arith, p u (in-below _ x u b hu) hu, p v (in-below _ x v b hv) hv, size-or mu mv, size-minus x (bitOr mu mv), covered, shared, apart (ℕ-discrete (bit (row g u) v) 1))
+      let du = p u (in-below _ x u b hu) hu in
+      let dv = p v (in-below _ x v b hv) hv in
+      omega (arith, size-or mu mv, size-minus x (bitOr mu mv), covered, shared, apart (ℕ-discrete (bit (row g u) v) 1))
     where
       mu : ℕ
       mu = minus x (row g u)
@@ -38,7 +40,10 @@ module _ (g : List ℕ) (k : ℕ) (ok : Valid g) where
       shared : size (minus x (bitOr mu mv)) ≤ size (bitAnd s (bitAnd (row g u) (row g v)))
       shared =
           size-mono _ _ (λ w.
-          omega (arith, h w, bit-minus x (bitOr mu mv) w, bit-or mu mv w, bit-minus x (row g u) w, bit-minus x (row g v) w, bit-and s (bitAnd (row g u) (row g v)) w, bit-and (row g u) (row g v) w, bit-le x w, bit-le s w))
+          let both = bit-and s (bitAnd (row g u) (row g v)) w in
+          let rows = bit-and (row g u) (row g v) w in
+          let missed = bit-or mu mv w in
+          omega (arith, h w, bit-minus x (bitOr mu mv) w, bit-minus x (row g u) w, bit-minus x (row g v) w, bit-le x w, bit-le s w))
 
       apart : Dec (bit (row g u) v ≡ 1) → 2 ≤ size (bitAnd mu mv) + 2 * bit (row g u) v
       apart (yes e) = omega arith
