@@ -1,4 +1,4 @@
--- The causes are tested in their order: those of the table, the slack and S, then C, then v, and then whether the three fit together. The first that holds is the reply.
+-- The causes are tested in their order: those of the table, the slack and s, then c, then v, then their places. The first that holds is the reply.
 use native.Mathlib.Omega.{arith}
 use borrow.Author.Needs.{needs}
 use Rattle.judging.specs.RefusalLaws.{set-checked}

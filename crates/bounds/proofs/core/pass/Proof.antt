@@ -1,4 +1,4 @@
--- One pass takes out of s only what no dense set inside s has, and takes nothing only where s is dense: `Peeling` says so midway, and each turn leaves v in or takes it out.
+-- A pass takes out of s only what no dense set inside s has, and takes nothing only where s is dense (`Peeling`): each turn leaves v in or takes it out.
 use borrow.Author.Needs.{needs}
 use mathlib.Core.Logic.{⊎-elim}
 use Rattle.sets.specs.Words.{mask, masks}
