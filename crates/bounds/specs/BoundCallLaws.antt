@@ -14,12 +14,12 @@ use Rattle.sets.specs.BitLaws.{bit-le, bit-and}
 use Rattle.sets.specs.PointLaws.{bit-none}
 use Rattle.sets.specs.SubsetLaws.{sub-with}
 use Rattle.judging.specs.Plex.{plex}
-use Rattle.judging.specs.Refusal.{refused, Cause, firstOf, setCause, vertexOutCause}
-use Rattle.judging.specs.Setting.{Sized}
+use Rattle.judging.specs.Refusal.{refused, Cause, firstOf, mostSlack, setCause, vertexOutCause}
+use Rattle.judging.specs.Setting.{Judgeable}
 use Rattle.judging.specs.Calls.{refusal, passed, checkedReply, slackCheck, setCheck}
 use Rattle.judging.specs.PlexLaws.{plex-holds, hereditary}
 use Rattle.judging.specs.RefusalLaws.{first-holds, first-skips, passed-head, passed-tail, passed-front, passed-back}
-use Rattle.judging.specs.RefusalLaws.{slack-accepted, slack-graph, graph-sized, graph-checked, set-below, vertex-below}
+use Rattle.judging.specs.RefusalLaws.{slack-accepted, set-checked, set-below, vertex-below}
 use Rattle.judging.specs.CallLaws.{set-outside, set-inside}
 use Rattle.judging.specs.declared.Refusal.{Refusal}
 use Rattle.judging.specs.declared.Checked.{Checked}
@@ -105,38 +105,41 @@ module _ (g : List ℕ) (k s c v : ℕ) where
   -- ---- what is known of an input that passes
 
   pub bound-checked : firstOf (boundCheck g k s c v) passed ≡ passed → Boundable g k s c v
-  unfolding boundCheck boundCause misplaced overlap places
+  unfolding setCheck boundCause misplaced overlap places
   bound-checked e =
       record {
         supported =
             record {
-              inside = record { some = sized .some; most = sized .most; below = set-below g s (passed-head (setCause g s) (setCause g c ∷ places) sets) };
-              slack = slack-accepted g k slack .1;
+              inside = judged .inside;
+              slack = slack .1;
               plex = hereditary g k s (with s v) (sub-with s v) (plex-holds g k (with s v) (true-holds (plex g k (with s v)) (placed .0)));
             };
-        valid = graph-checked g (slack-graph g k slack);
-        some = slack-accepted g k slack .0;
-        vertex = vertex-below g v (passed-head (vertexOutCause g v) (boundCause g k s c v ∷ []) tail);
-        below = set-below g c (passed-head (setCause g c) places (passed-tail (setCause g s) (setCause g c ∷ places) sets));
+        valid = judged .valid;
+        some = slack .0;
+        vertex = vertex-below g v (passed-head (vertexOutCause g v) (boundCause g k s c v ∷ []) last);
+        below = set-below g c (passed-head (setCause g c) places later);
         apart = λ u i. omega (arith, i, bit-and s c u, ap (λ (x : ℕ). bit x u) meet, bit-none u, bit-le s u);
       }
     where
-      slack : firstOf (slackCheck g k) passed ≡ passed
-      slack = passed-front (slackCheck g k) (setCause g s ∷ setCause g c ∷ places) e
+      front : firstOf (setCheck g k s) passed ≡ passed
+      front = passed-front (setCheck g k s) (setCause g c ∷ places) (rw set-first at e)
 
-      sized : Sized g
-      sized = graph-sized g (slack-graph g k slack)
+      judged : Judgeable g s
+      judged = set-checked g k s front
 
-      sets : firstOf (setCause g s ∷ setCause g c ∷ places) passed ≡ passed
-      sets = passed-back (slackCheck g k) (setCause g s ∷ setCause g c ∷ places) e
+      slack : (1 ≤ k) × (k ≤ mostSlack)
+      slack = slack-accepted g k (passed-front (slackCheck g k) (setCause g s ∷ []) front)
 
-      tail : firstOf places passed ≡ passed
-      tail = passed-tail (setCause g c) places (passed-tail (setCause g s) (setCause g c ∷ places) sets)
+      later : firstOf (setCause g c ∷ places) passed ≡ passed
+      later = passed-back (setCheck g k s) (setCause g c ∷ places) (rw set-first at e)
+
+      last : firstOf places passed ≡ passed
+      last = passed-tail (setCause g c) places later
 
       placed : (plex g k (with s v) ≡ true) × (has c v ≡ true) × (not (eqb (bitAnd s c) 0) ≡ false)
       placed =
           well-placed (plex g k (with s v)) (has c v) (not (eqb (bitAnd s c) 0))
-          (passed-head (boundCause g k s c v) [] (passed-tail (vertexOutCause g v) (boundCause g k s c v ∷ []) tail))
+          (passed-head (boundCause g k s c v) [] (passed-tail (vertexOutCause g v) (boundCause g k s c v ∷ []) last))
 
       meet : bitAnd s c ≡ 0
       meet = eqb-true (bitAnd s c) 0 (not-false (eqb (bitAnd s c) 0) (placed .2))

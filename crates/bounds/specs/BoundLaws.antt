@@ -16,12 +16,6 @@ use Rattle.bounds.specs.OrderedLaws.{ByCost, ordered-by-cost}
 use Rattle.bounds.specs.KeptLaws.{Rule, costly, free, charged, unsupported, rule, kept-costly, kept-free, kept-charged, kept-unsupported}
 use Rattle.bounds.specs.KeptLaws.{kept-none, pack-none, pack-more}
 
-swap-sub : (b d x : ℕ) → b - d - x ≡ b - x - d
-swap-sub b d x = omega arith
-
-sub-none : (b x : ℕ) → x ≡ 0 → b - x ≡ b
-sub-none b x e = omega arith
-
 module _ (g : List ℕ) (s : ℕ) where
   -- a budget less by no more than each cost loses one neighbour at the most
   pack-less : (us : List ℕ) (b d : ℕ) → ByCost g s us → ((v : ℕ) → Mem v us → d ≤ missing g s v) → d ≤ b
@@ -37,8 +31,8 @@ module _ (g : List ℕ) (s : ℕ) where
           → Dec (missing g s u ≤ b - d) → Dec (missing g s u ≤ b) → packable g s b (u ∷ us) ≤ suc (packable g s (b - d) (u ∷ us))
       go ih (yes p) q =
           let i = ih (b - missing g s u) d (o .1) later (omega arith) in
-          let e = ap (λ (x : ℕ). packable g s x us) (swap-sub b d (missing g s u)) in
-          omega (arith, pack-more g s u us b (omega arith), pack-more g s u us (b - d) p)
+          let e : b - d - missing g s u ≡ b - missing g s u - d = omega arith in
+          omega (arith, pack-more g s u us b (omega arith), pack-more g s u us (b - d) p, ap (λ (x : ℕ). packable g s x us) e)
       go ih (no np) (no nq) =
           omega (arith, pack-none g s (u ∷ us) b (λ v m. first-costly v (List·Memᴰ·cases-cons m)))
         where
@@ -57,8 +51,8 @@ module _ (g : List ℕ) (s : ℕ) where
       go : ((sp : List ℕ) (b : ℕ) → kept g s sp b us ≤ packable g s b us) → Rule g s sp b u → kept g s sp b (u ∷ us) ≤ packable g s b (u ∷ us)
       go ih (costly d) = omega (arith, kept-costly g s sp b u us d, kept-none g s us sp b (λ v m. omega (arith, o .0 v m)))
       go ih (free z) =
-          let e = ap (λ (x : ℕ). packable g s x us) (sub-none b (missing g s u) z) in
-          omega (arith, kept-free g s sp b u us z, pack-more g s u us b (omega arith), ih sp b)
+          let e : b - missing g s u ≡ b = omega arith in
+          omega (arith, kept-free g s sp b u us z, pack-more g s u us b (omega arith), ih sp b, ap (λ (x : ℕ). packable g s x us) e)
       go ih (charged p l q) = omega (arith, kept-charged g s sp b u us p l q, pack-more g s u us b l, ih (spent sp (tightest g s sp u)) (b - missing g s u))
       go ih (unsupported p l q) =
           let fewer = pack-less us b (missing g s u) (o .1) (o .0) l in

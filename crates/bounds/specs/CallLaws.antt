@@ -63,9 +63,9 @@ module _ (g : List ℕ) (v : ℕ) {r : Checked} (h : checkedReply r ≡ firstOf 
         let z = graph-sized g none in
         (record { some = z .some; most = z .most; low = graph-checked g none .low }, l)
 
-    pub reach-outside : length g ≤ v → refused 7 0 ≡ reachReply g v
+    pub reach-outside-refused : length g ≤ v → refused 7 0 ≡ reachReply g v
     unfolding vertexOutCause
-    reach-outside l = sym (only-vertex ∙ first-holds (vertexOutCause g v) [] (answered 0 (reach g v)) (le-leb (length g) v l))
+    reach-outside-refused l = sym (only-vertex ∙ first-holds (vertexOutCause g v) [] (answered 0 (reach g v)) (le-leb (length g) v l))
 
     pub reach-found : {s : ℕ} → v < length g → s ≡ reach g v → answered 0 s ≡ reachReply g v
     unfolding vertexOutCause firstOf

@@ -49,9 +49,9 @@ unfolding core in-core dense-with
 core-below g m = set-of-below (in-core g m) (length g)
 
 -- it holds every dense set
-pub core-holds : (g : List ℕ) (m s : ℕ) → s < 2 ^ length g → Dense g m s → Sub s (core g m)
+pub core-complete : (g : List ℕ) (m s : ℕ) → s < 2 ^ length g → Dense g m s → Sub s (core g m)
 unfolding core in-core dense-with
-core-holds g m s b d =
+core-complete g m s b d =
     sub-of-in s (core g m) (λ v e.
     set-of-in (in-core g m) (length g) v (in-below (length g) s v b e)
     (any-intro (dense-with g m v) (range (2 ^ length g)) s (mem-range (2 ^ length g) s b)
@@ -64,16 +64,16 @@ core-dense g m v l e =
     let q = any-elim (dense-with g m v) (range (2 ^ length g)) (set-of-holds (in-core g m) (length g) v e .1) in
     let d = dense-holds g m (q .0) (and-right (has (q .0) v) (dense g m (q .0)) (q .2)) in
     le-trans (d v l (has-in (q .0) v (and-left (has (q .0) v) (dense g m (q .0)) (q .2))))
-    (degree-mono g (q .0) (core g m) v (core-holds g m (q .0) (range-mem (2 ^ length g) (q .0) (q .1)) d))
+    (degree-mono g (q .0) (core g m) v (core-complete g m (q .0) (range-mem (2 ^ length g) (q .0) (q .1)) d))
 
 -- nothing else is both
 pub core-unique : (g : List ℕ) (m c : ℕ) → c < 2 ^ length g → Dense g m c
     → ((s : ℕ) → s < 2 ^ length g → Dense g m s → Sub s c) → c ≡ core g m
-core-unique g m c b d h = sub-antisym c (core g m) (core-holds g m c b d) (h (core g m) (core-below g m) (core-dense g m))
+core-unique g m c b d h = sub-antisym c (core g m) (core-complete g m c b d) (h (core g m) (core-below g m) (core-dense g m))
 
 -- every plex of at least q members lies in the core of q - k
 pub plex-core : (g : List ℕ) (k q s : ℕ) → s < 2 ^ length g → Plex g k s → q ≤ size s → Sub s (core g (q - k))
-plex-core g k q s b p l = core-holds g (q - k) s b (λ v lv e. omega (arith, p v lv e, degree-missing g s v))
+plex-core g k q s b p l = core-complete g (q - k) s b (λ v lv e. omega (arith, p v lv e, degree-missing g s v))
 
 -- ---- a pass
 
@@ -118,8 +118,8 @@ pub record HoldsDense (g : List ℕ) (m s : ℕ) : Type 0 where
   pub below : s < 2 ^ length g
   pub holds : (t : ℕ) → t < 2 ^ length g → Dense g m t → Sub t s
 
-pub dense-none : (g : List ℕ) (m : ℕ) {s : ℕ} → s ≡ full (length g) → HoldsDense g m s
-dense-none g m {s} e =
+pub holds-dense-none : (g : List ℕ) (m : ℕ) {s : ℕ} → s ≡ full (length g) → HoldsDense g m s
+holds-dense-none g m {s} e =
     record {
       below = omega (arith, e, pow-pos (length g));
       holds = λ t b d. sub-of-in t s (λ v h. subst (λ (y : ℕ). In v y) (sym e) (bit-full (length g) v (in-below (length g) t v b h)));
@@ -130,8 +130,8 @@ module _ {g : List ℕ} {m s r : ℕ} (p : Peeled g m s r) where
   peeled-falls ne = omega (arith, sub-number r s (p .part))
 
   module _ (h : HoldsDense g m s) where
-    pub dense-next : HoldsDense g m r
-    dense-next = record { below = lt-of-le-of-lt (sub-number r s (p .part)) (h .below); holds = λ t b d. p .keeps t d (h .holds t b d) }
+    pub holds-dense-next : HoldsDense g m r
+    holds-dense-next = record { below = lt-of-le-of-lt (sub-number r s (p .part)) (h .below); holds = λ t b d. p .keeps t d (h .holds t b d) }
 
-    pub dense-all : r ≡ s → s ≡ core g m
-    dense-all e = core-unique g m s (h .below) (p .still e) (h .holds)
+    pub holds-dense-all : r ≡ s → s ≡ core g m
+    holds-dense-all e = core-unique g m s (h .below) (p .still e) (h .holds)

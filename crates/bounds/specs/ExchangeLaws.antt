@@ -3,17 +3,18 @@
 --
 --   apart g w u            1 where u is not adjacent to w, else 0
 --   Feasible g s sp b ds   the choice ds charges no member of s beyond its support, and its costs together are at most b
-use Prim.Native.Nat.{ℕ, suc, _-_, _^_, _≤_, _<_}
+use Prim.Native.Nat.{ℕ, _-_, _^_, _≤_, _<_}
 use native.Mathlib.Omega.{arith}
 use native.Mathlib.Decide.{decLt}
-use mathlib.Core.Path.{_≡_, refl, sym, ap, _∙_, subst}
+use mathlib.Core.Path.{_≡_, refl, ap, _∙_, subst}
 use mathlib.Core.Logic.{_⊎_, inl, inr}
-use mathlib.Core.List.{List, [], _∷_, List·Memᴰ·head}
+use mathlib.Core.List.{List, [], _∷_}
 use lib.ListN.{length, getD}
 use Rattle.sets.specs.Ranges.{total}
 use Rattle.sets.specs.Set.{bit, In}
 use Rattle.sets.specs.Graph.{row}
 use Rattle.sets.specs.RangeLaws.{Mem}
+use Rattle.sets.specs.SumLaws.{length-total}
 use Rattle.sets.specs.BitLaws.{bit-le}
 use Rattle.sets.specs.PointLaws.{single-out, in-single, by-bit}
 use Rattle.judging.specs.Graph.{missing}
@@ -59,20 +60,21 @@ module _ {g : List ℕ} {s : ℕ} {sp : List ℕ} {b u : ℕ} {es : List ℕ} (f
 
 module _ {g : List ℕ} {s : ℕ} {sp : List ℕ} {b u t : ℕ} {ds : List ℕ} (f : Feasible g s sp b ds) (p : NonNeighbour g s t u) (e : length sp ≡ length g)
     (costly : (v : ℕ) → Mem v ds → missing g s u ≤ missing g s v) where
-  makes-room : {x : ℕ} → Mem x ds → (r : Less x ds) → total (apart g t) (r .rest) ≤ getD sp t 0 - 1
-      → Feasible g s (spent sp t) (b - missing g s u) (r .rest)
-  makes-room {x} m r k =
-      record {
-        each = λ w l i.
-            let at = spent-at sp t w (omega arith) in
-            by-bit (2 ^ t) w
-            (λ h. subst (λ (y : ℕ). total (apart g y) (r .rest) ≤ getD (spent sp t) y 0) (in-single t w h) (at-tightest k))
-            (λ h. omega (arith, f .each w l i, r .sums (apart g w)));
-        costs = omega (arith, f .costs, r .sums (missing g s), costly x m);
-      }
-    where
-      at-tightest : total (apart g t) (r .rest) ≤ getD sp t 0 - 1 → total (apart g t) (r .rest) ≤ getD (spent sp t) t 0
-      at-tightest k = omega (arith, spent-at sp t t (omega (arith, p .below)), bit-le (2 ^ t) t)
+  makes-room : {x : ℕ} (m : Mem x ds) → total (apart g t) (less m .rest) ≤ getD sp t 0 - 1
+      → (x : ℕ) × (r : Less x ds) × Feasible g s (spent sp t) (b - missing g s u) (r .rest)
+  makes-room {x} m k =
+      let r = less m in
+      let mine : total (apart g t) (r .rest) ≤ getD (spent sp t) t 0 = omega (arith, spent-at sp t t (omega (arith, p .below)), bit-le (2 ^ t) t) in (
+        x,
+        r,
+        record {
+          each = λ w l i.
+              by-bit (2 ^ t) w
+              (λ h. subst (λ (y : ℕ). total (apart g y) (r .rest) ≤ getD (spent sp t) y 0) (in-single t w h) mine)
+              (λ h. omega (arith, f .each w l i, r .sums (apart g w), spent-at sp t w (omega arith)));
+          costs = omega (arith, f .costs, r .sums (missing g s), costly x m);
+        },
+      )
 
   exchange : 0 < getD sp t 0 → 0 < length ds → (x : ℕ) × (r : Less x ds) × Feasible g s (spent sp t) (b - missing g s u) (r .rest)
   exchange q h = go (decLt 0 (total (apart g t) ds))
@@ -80,16 +82,10 @@ module _ {g : List ℕ} {s : ℕ} {sp : List ℕ} {b u t : ℕ} {ds : List ℕ} 
       go : Dec (0 < total (apart g t) ds) → (x : ℕ) × (r : Less x ds) × Feasible g s (spent sp t) (b - missing g s u) (r .rest)
       go (yes k) =
           let x = total-witness (apart g t) ds k in
-          let r = less (x .1) in
-          (x .0, r, makes-room (x .1) r (omega (arith, f .each t (p .below) (p .member), r .sums (apart g t), x .2)))
-      go (no nk) = one ds refl
-        where
-          one : (l : List ℕ) → ds ≡ l → (x : ℕ) × (r : Less x ds) × Feasible g s (spent sp t) (b - missing g s u) (r .rest)
-          one [] z = absurd (omega (arith, h, ap length z))
-          one (x ∷ xs) z =
-              let m = subst (λ (l : List ℕ). Mem x l) (sym z) (List·Memᴰ·head refl) in
-              let r = less m in
-              (x, r, makes-room m r (omega (arith, r .sums (apart g t))))
+          makes-room (x .1) (omega (arith, f .each t (p .below) (p .member), less (x .1) .sums (apart g t), x .2))
+      go (no nk) =
+          let x = total-witness (λ u. 1) ds (omega (arith, length-total ds)) in
+          makes-room (x .1) (omega (arith, less (x .1) .sums (apart g t)))
 
 -- ---- no feasible choice is larger than what is kept
 

@@ -6,7 +6,7 @@ use Prim.Native.Nat.{ℕ, suc, _-_, _^_, _≤_, _<_}
 use native.Mathlib.Omega.{arith}
 use native.Mathlib.Decide.{decLt, ℕ-discrete}
 use mathlib.Core.Path.{_≡_, refl, sym, ap, _∙_}
-use mathlib.Core.List.{List, [], _∷_, List·Memᴰ·head, List·Memᴰ·tail}
+use mathlib.Core.List.{List, [], _∷_, _++_, append-nil, List·Memᴰ·head, List·Memᴰ·tail}
 use lib.ListN.{length, getD}
 use borrow.Author.Tests.{lt-ltb, le-ltb, eq-eqb, ne-eqb, lt-leb, le-leb}
 use Rattle.sets.specs.RangeLaws.{Mem}
@@ -56,11 +56,14 @@ module _ (g : List ℕ) (s : ℕ) (sp : List ℕ) (b u : ℕ) where
 abbrev pub Costly : List ℕ → ℕ → ℕ → List ℕ → Type 0
 Costly g s b us = (v : ℕ) → Mem v us → b < missing g s v
 
+pub kept-costly-all : (g : List ℕ) (s : ℕ) (us rest sp : List ℕ) (b : ℕ) → Costly g s b us → kept g s sp b (us ++ rest) ≡ kept g s sp b rest
+kept-costly-all g s [] rest sp b h = refl
+kept-costly-all g s (u ∷ us) rest sp b h =
+    kept-costly g s sp b u (us ++ rest) (h u (List·Memᴰ·head refl)) ∙ kept-costly-all g s us rest sp b (λ x m. h x (List·Memᴰ·tail m))
+
 pub kept-none : (g : List ℕ) (s : ℕ) (us sp : List ℕ) (b : ℕ) → Costly g s b us → kept g s sp b us ≡ 0
 unfolding kept
-kept-none g s [] sp b h = refl
-kept-none g s (u ∷ us) sp b h =
-    kept-costly g s sp b u us (h u (List·Memᴰ·head refl)) ∙ kept-none g s us sp b (λ v m. h v (List·Memᴰ·tail m))
+kept-none g s us sp b h = ap (kept g s sp b) (sym (append-nil us)) ∙ kept-costly-all g s us [] sp b h
 
 -- what is kept depends on the supports of the members alone
 pub kept-agree : {g : List ℕ} {s : ℕ} {sp tp : List ℕ} → s < 2 ^ length g → (us : List ℕ) (b : ℕ) → Agree g s sp tp → kept g s sp b us ≡ kept g s tp b us

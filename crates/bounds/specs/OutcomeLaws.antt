@@ -20,7 +20,7 @@ use Rattle.bounds.specs.Bound.{firstBound, secondBound, largest}
 use Rattle.bounds.specs.Calls.{coreReply, reachCheck, reachReply}
 use Rattle.bounds.specs.BoundCalls.{boundCheck, firstBoundReply, secondBoundReply}
 use Rattle.bounds.specs.BoundSetting.{Boundable}
-use Rattle.bounds.specs.CoreLaws.{core-below, core-holds, core-dense, plex-core}
+use Rattle.bounds.specs.CoreLaws.{core-below, core-complete, core-dense, plex-core}
 use Rattle.bounds.specs.ReachLaws.{plex-reach}
 use Rattle.bounds.specs.BoundLaws.{second-first}
 use Rattle.bounds.specs.BoundSound.{second-sound, second-largest}
@@ -46,7 +46,7 @@ module _ (g : List ℕ) (k q : ℕ) {v c : ℕ} (e : coreReply g k q ≡ answere
 
   -- the largest one
   pub core-holds-dense : (s : ℕ) → s < 2 ^ length g → Dense g (q - k) s → Sub s c
-  core-holds-dense s b d = subst (Sub s) (sym core-answer) (core-holds g (q - k) s b d)
+  core-holds-dense s b d = subst (Sub s) (sym core-answer) (core-complete g (q - k) s b d)
 
   -- so no k-plex of q or more members has a vertex outside it
   pub core-holds-plexes : (s : ℕ) → s < 2 ^ length g → Plex g k s → q ≤ size s → Sub s c

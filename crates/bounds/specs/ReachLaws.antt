@@ -43,22 +43,22 @@ module _ (g : List ℕ) (a : ℕ) where
   unfolding reach near close far
   reach-below = set-of-below (near g a) (length g)
 
-  near-in : (b : ℕ) → b < length g → T (near g a b) → In b (reach g a)
+  reach-near : (b : ℕ) → b < length g → T (near g a b) → In b (reach g a)
   unfolding reach near close far
-  near-in b l t = set-of-in (near g a) (length g) b l t
+  reach-near b l t = set-of-in (near g a) (length g) b l t
 
-  self-in : a < length g → In a (reach g a)
+  reach-self : a < length g → In a (reach g a)
   unfolding near close
-  self-in l = near-in a l (or-left (close g a a) (far g a a) (or-left (eqb a a) (adjacent g a a) (eqb-refl a)))
+  reach-self l = reach-near a l (or-left (close g a a) (far g a a) (or-left (eqb a a) (adjacent g a a) (eqb-refl a)))
 
-  one-in : (b : ℕ) → b < length g → In b (row g a) → In b (reach g a)
+  reach-one : (b : ℕ) → b < length g → In b (row g a) → In b (reach g a)
   unfolding near close
-  one-in b l e = near-in b l (or-left (close g a b) (far g a b) (or-right (eqb a b) (adjacent g a b) (in-adjacent g a b e)))
+  reach-one b l e = reach-near b l (or-left (close g a b) (far g a b) (or-right (eqb a b) (adjacent g a b) (in-adjacent g a b e)))
 
-  two-in : (b w : ℕ) → b < length g → w < length g → In w (row g a) → In b (row g w) → In b (reach g a)
+  reach-two : (b w : ℕ) → b < length g → w < length g → In w (row g a) → In b (row g w) → In b (reach g a)
   unfolding near far
-  two-in b w l lw e h =
-      near-in b l (or-right (close g a b) (far g a b) (members-any (λ w. adjacent g w b) (length g) (row g a) w lw e (in-adjacent g w b h)))
+  reach-two b w l lw e h =
+      reach-near b l (or-right (close g a b) (far g a b) (members-any (λ w. adjacent g w b) (length g) (row g a) w lw e (in-adjacent g w b h)))
 
   -- and nothing else
   reach-only : (s : ℕ) → In a s → Sub (row g a) s → ((w : ℕ) → In w (row g a) → Sub (row g w) s) → Sub (reach g a) s
@@ -87,11 +87,11 @@ plex-reach g k s a ok b p big ha =
     below v e = in-below (length g) s v b e
 
     go : (v : ℕ) → v < length g → In v s → Dec (a ≡ v) → Dec (bit (row g a) v ≡ 1) → In v (reach g a)
-    go v l e (yes q) d = subst (λ (y : ℕ). In y (reach g a)) q (self-in g a (below a ha))
-    go v l e (no nq) (yes h) = one-in g a v l h
+    go v l e (yes q) d = subst (λ (y : ℕ). In y (reach g a)) q (reach-self g a (below a ha))
+    go v l e (no nq) (yes h) = reach-one g a v l h
     go v l e (no nq) (no nh) =
         let r = common-neighbour g k ok s a v b p big ha e nq (omega (arith, bit-le (row g a) v)) in
-        two-in g a v (r .0) l (below (r .0) (r .1)) (r .2) (omega (arith, ok .mutually v (r .0) l (below (r .0) (r .1)), r .3))
+        reach-two g a v (r .0) l (below (r .0) (r .1)) (r .2) (omega (arith, ok .mutually v (r .0) l (below (r .0) (r .1)), r .3))
 
 -- ---- a walk through the neighbours of a that joins their rows
 
@@ -107,7 +107,7 @@ reaching-none {g} {a} low l =
       self = with-same (row g a) a;
       one = sub-with (row g a) a;
       two = walk-none _ (row g a);
-      only = with-sub (row g a) a (reach g a) (sub-of-in _ _ (λ v e. one-in g a v (in-below _ _ v (low .low a l) e) e)) (self-in g a l);
+      only = with-sub (row g a) a (reach g a) (sub-of-in _ _ (λ v e. reach-one g a v (in-below _ _ v (low .low a l) e) e)) (reach-self g a l);
     }
 
 -- w is next, and is a vertex: its neighbours are joined
@@ -125,7 +125,7 @@ reaching-next {g} {a} {left} {s} {w} low l r here =
     wider u h v = omega (arith, bit-or s (row g w) v, h v)
 
     mine : Sub (row g w) (reach g a)
-    mine = sub-of-in _ _ (λ v h. two-in g a v w (in-below _ _ v (low .low w l) h) l (walk-member _ _ _ (r .two .part) here) h)
+    mine = sub-of-in _ _ (λ v h. reach-two g a v w (in-below _ _ v (low .low w l) h) l (walk-member _ _ _ (r .two .part) here) h)
 
 pub reaching-all : {g : List ℕ} {a left s : ℕ} → Reaching g a left s → left ≡ 0 → s ≡ reach g a
 reaching-all {g} {a} {left} {s} r z =

@@ -7,10 +7,10 @@ use Prim.Native.Nat.{ℕ, _^_, _≤_, _<_}
 use native.Mathlib.Nat.{le-refl}
 use native.Mathlib.Omega.{arith}
 use native.Mathlib.Decide.{decLe}
-use mathlib.Core.Path.{_≡_, refl, sym, ap, ap₂, _∙_, subst}
+use mathlib.Core.Path.{_≡_, refl, sym, ap, ap₂, _∙_}
 use mathlib.Core.Bool.{Bool, true, false, not, _&&_, cond}
 use mathlib.Core.List.{List, [], _∷_, List·Memᴰ·head, List·Memᴰ·tail, List·Memᴰ·not-nil}
-use lib.Dec.{T, leb}
+use lib.Dec.{leb}
 use lib.ListN.{length, getD}
 use borrow.Author.Tests.{le-leb, lt-leb}
 use Rattle.sets.specs.Ranges.{range, keep}
@@ -125,19 +125,16 @@ choosing-all {sp} {s} {best} y z =
 tightest-least : (g : List ℕ) (s : ℕ) (sp : List ℕ) (u : ℕ) → tightest g s sp u ≡ least sp 0 (members (length g) (minus s (row g u)))
 unfolding tightest members adjacent
 tightest-least g s sp u =
+    let r = row g u in
     ap (least sp 0)
-    (keep-keep (has s) (λ w. not (has (row g u) w)) (range (length g))
-    ∙ sym (members-keep (length g) (minus s (row g u)) (λ w. has s w && not (has (row g u) w)) (λ w l e. into w e) (λ w l t. back w t)))
-  where
-    into : (w : ℕ) → In w (minus s (row g u)) → T (has s w && not (has (row g u) w))
-    into w e =
-        both (has s w) (not (has (row g u) w)) (in-has s w (omega (arith, e, bit-minus s (row g u) w, bit-le s w)))
-        (not-has (row g u) w (omega (arith, e, bit-minus s (row g u) w, bit-le s w)))
-
-    back : (w : ℕ) → T (has s w && not (has (row g u) w)) → In w (minus s (row g u))
-    back w t =
-        let i = has-in s w (and-left (has s w) (not (has (row g u) w)) t) in
-        omega (arith, bit-minus s (row g u) w, not-in (row g u) w (and-right (has s w) (not (has (row g u) w)) t))
+    (keep-keep (has s) (λ w. not (has r w)) (range (length g))
+    ∙ sym (members-keep (length g) (minus s r) (λ w. has s w && not (has r w))
+    (λ w l e.
+    let b = bit-minus s r w in
+    both (has s w) (not (has r w)) (in-has s w (omega (arith, bit-le s w))) (not-has r w (omega (arith, bit-le s w))))
+    (λ w l t.
+    let i = has-in s w (and-left (has s w) (not (has r w)) t) in
+    omega (arith, bit-minus s r w, not-in r w (and-right (has s w) (not (has r w)) t)))))
 
 pub record NonNeighbour (g : List ℕ) (s w u : ℕ) : Type 0 where
   pub below : w < length g

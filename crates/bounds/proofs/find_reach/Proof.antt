@@ -1,7 +1,7 @@
 -- The checks of the table decide first and the vertex next: a refusal is the call's, and else the reach of v is the answer.
 use native.Mathlib.Omega.{arith}
 use borrow.Author.Needs.{needs}
-use Rattle.bounds.specs.CallLaws.{reach-refused, reach-ready, reach-outside, reach-found}
+use Rattle.bounds.specs.CallLaws.{reach-refused, reach-ready, reach-outside-refused, reach-found}
 use Rattle.bounds.proofs.find_reach.Statement.{statement}
 use Rattle.bounds.proofs.find_reach.Tie as tie
 
@@ -23,7 +23,7 @@ count-requires c κs = search needs
 returns-2 : tie.Need-returns-2
 returns-2 c =
     let told = c .before .before in
-    reach-outside _ _ (told .before .before .check-graph .ensures) (told .enum-told .given .1) (omega arith)
+    reach-outside-refused _ _ (told .before .before .check-graph .ensures) (told .enum-told .given .1) (omega arith)
 
 reach-requires : tie.Need-reach-requires
 reach-requires c κs =

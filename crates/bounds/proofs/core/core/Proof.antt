@@ -4,7 +4,7 @@ use mathlib.Core.Path.{sym, ap, _∙_}
 use borrow.Author.Tests.{eqb-true, eqb-false}
 use Rattle.sets.specs.Set.{full}
 use Rattle.sets.specs.Words.{mask, masks}
-use Rattle.bounds.specs.CoreLaws.{HoldsDense, dense-none, dense-next, dense-all, peeled-falls}
+use Rattle.bounds.specs.CoreLaws.{HoldsDense, holds-dense-none, holds-dense-next, holds-dense-all, peeled-falls}
 use Rattle.bounds.proofs.core.core.Statement.{statement}
 use Rattle.bounds.proofs.core.core.Tie as tie
 
@@ -21,7 +21,7 @@ full-requires : tie.Need-full-requires Inv-loop μ-loop
 full-requires c κs = search needs
 
 loop-holds : tie.Need-loop-holds Inv-loop μ-loop
-loop-holds c = dense-none _ _ (c .full .ensures ∙ ap full (c .before .count .ensures))
+loop-holds c = holds-dense-none _ _ (c .full .ensures ∙ ap full (c .before .count .ensures))
 
 pass-requires : tie.Need-pass-requires Inv-loop μ-loop
 pass-requires c κs = search needs
@@ -32,13 +32,13 @@ same-requires c κs = search needs
 returns : tie.Need-returns Inv-loop μ-loop
 returns c =
     let passed = c .before .before in
-    dense-all (passed .pass .ensures) (passed .before .loop .inv) (eqb-true _ _ (sym (c .before .same .ensures) ∙ c .if1 .taken))
+    holds-dense-all (passed .pass .ensures) (passed .before .loop .inv) (eqb-true _ _ (sym (c .before .same .ensures) ∙ c .if1 .taken))
 
 loop-less : tie.Need-loop-less Inv-loop μ-loop
 loop-less c = peeled-falls (c .before .before .pass .ensures) (eqb-false _ _ (sym (c .before .same .ensures) ∙ c .if1 .left))
 
 loop-again : tie.Need-loop-again Inv-loop μ-loop
-loop-again c = dense-next (c .before .before .pass .ensures) (c .before .before .before .loop .inv)
+loop-again c = holds-dense-next (c .before .before .pass .ensures) (c .before .before .before .loop .inv)
 
 pub core-spec : {M : Type 1} → statement M
 core-spec =
