@@ -5,7 +5,7 @@
 use Prim.Native.Nat.{ℕ, _-_, _^_, _≤_, _<_}
 use native.Mathlib.Nat.{le-trans, lt-of-le-of-lt}
 use native.Mathlib.Omega.{arith}
-use mathlib.Core.Path.{_≡_, sym, ap, subst}
+use mathlib.Core.Path.{_≡_, ap}
 use mathlib.Core.Bool.{Bool, _&&_}
 use mathlib.Core.List.{List}
 use lib.Pow.{pow-pos}
@@ -13,7 +13,7 @@ use lib.Dec.{T, leb, leb→le, le→leb}
 use lib.ListN.{length}
 use Rattle.sets.specs.Ranges.{range, any}
 use Rattle.sets.specs.Words.{Lowest}
-use Rattle.sets.specs.Set.{bit, has, In, Sub, size, without, full}
+use Rattle.sets.specs.Set.{bit, has, Sub, size, without, full}
 use Rattle.sets.specs.RangeLaws.{mem-range, range-mem, any-elim, any-intro, and-left, and-right, both}
 use Rattle.sets.specs.BitLaws.{bit-le, bit-minus}
 use Rattle.sets.specs.PointLaws.{single-out, by-bit}
@@ -83,8 +83,8 @@ pub record Peeling (g : List ℕ) (m s left kept : ℕ) : Type 0 where
   pub keeps : (t : ℕ) → Dense g m t → Sub t s → Sub t kept
   pub walked : Walked (λ v. kept ≡ s → m ≤ degree g s v) s left
 
-pub peeling-none : (g : List ℕ) (m s : ℕ) → Peeling g m s s s
-peeling-none g m s = record { part = sub-refl s; keeps = λ t d h. h; walked = walk-none _ s }
+pub peeling-none : {g : List ℕ} {m s : ℕ} → Peeling g m s s s
+peeling-none {s = s} = record { part = sub-refl s; keeps = λ t d h. h; walked = walk-none _ s }
 
 module _ {g : List ℕ} {m s left kept v d : ℕ} (p : Peeling g m s left kept) (here : Lowest left v) (deg : d ≡ degree g kept v) where
   -- v stays
@@ -118,11 +118,11 @@ pub record HoldsDense (g : List ℕ) (m s : ℕ) : Type 0 where
   pub below : s < 2 ^ length g
   pub holds : (t : ℕ) → t < 2 ^ length g → Dense g m t → Sub t s
 
-pub holds-dense-none : (g : List ℕ) (m : ℕ) {s : ℕ} → s ≡ full (length g) → HoldsDense g m s
-holds-dense-none g m {s} e =
+pub holds-dense-none : {g : List ℕ} {m s : ℕ} → s ≡ full (length g) → HoldsDense g m s
+holds-dense-none {g} {s = s} e =
     record {
       below = omega (arith, e, pow-pos (length g));
-      holds = λ t b d. sub-of-in t s (λ v h. subst (λ (y : ℕ). In v y) (sym e) (bit-full (length g) v (in-below (length g) t v b h)));
+      holds = λ t b d. sub-of-in t s (λ v h. rw e (bit-full (length g) v (in-below (length g) t v b h)));
     }
 
 module _ {g : List ℕ} {m s r : ℕ} (p : Peeled g m s r) where

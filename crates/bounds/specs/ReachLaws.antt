@@ -12,11 +12,12 @@ use lib.Bits.{bitOr}
 use lib.Dec.{T, eqb, eqb→eq, eqb-refl}
 use lib.ListN.{length}
 use Rattle.sets.specs.Ranges.{any}
-use Rattle.sets.specs.Set.{bit, In, Sub, size, with, without, members}
+use Rattle.sets.specs.Set.{In, Sub, size, with, without, members}
 use Rattle.sets.specs.Words.{Lowest}
 use Rattle.sets.specs.Graph.{row}
 use Rattle.sets.specs.RangeLaws.{or-cases, or-left, or-right}
 use Rattle.sets.specs.BitLaws.{bit-le, bit-or}
+use Rattle.sets.specs.PointLaws.{by-bit}
 use Rattle.sets.specs.SubsetLaws.{sub-of-in, in-of-sub, in-below, sub-with, sub-antisym, with-sub, with-same}
 use Rattle.sets.specs.MemberLaws.{set-of-in, set-of-holds, set-of-below, any-members, members-any}
 use Rattle.sets.specs.WalkLaws.{Walked, walk-none, walk-more, walk-map, walk-all, walk-member}
@@ -81,17 +82,17 @@ module _ (g : List ℕ) (a : ℕ) where
 -- a plex of 2k - 1 or more members lies in the reach of each member
 pub plex-reach : (g : List ℕ) (k s a : ℕ) → Valid g → s < 2 ^ length g → Plex g k s → 2 * k ≤ size s + 1 → In a s → Sub s (reach g a)
 plex-reach g k s a ok b p big ha =
-    sub-of-in s (reach g a) (λ v e. go v (below v e) e (ℕ-discrete a v) (ℕ-discrete (bit (row g a) v) 1))
+    sub-of-in s (reach g a) (λ v e. go v (below v e) e (ℕ-discrete a v))
   where
     below : (v : ℕ) → In v s → v < length g
     below v e = in-below (length g) s v b e
 
-    go : (v : ℕ) → v < length g → In v s → Dec (a ≡ v) → Dec (bit (row g a) v ≡ 1) → In v (reach g a)
-    go v l e (yes q) d = subst (λ (y : ℕ). In y (reach g a)) q (reach-self g a (below a ha))
-    go v l e (no nq) (yes h) = reach-one g a v l h
-    go v l e (no nq) (no nh) =
-        let r = common-neighbour g k ok s a v b p big ha e nq (omega (arith, bit-le (row g a) v)) in
-        reach-two g a v (r .0) l (below (r .0) (r .1)) (r .2) (omega (arith, ok .mutually v (r .0) l (below (r .0) (r .1)), r .3))
+    go : (v : ℕ) → v < length g → In v s → Dec (a ≡ v) → In v (reach g a)
+    go v l e (yes q) = subst (λ (y : ℕ). In y (reach g a)) q (reach-self g a (below a ha))
+    go v l e (no nq) =
+        by-bit (row g a) v (reach-one g a v l) (λ o.
+        let r = common-neighbour g k ok s a v b p big ha e nq o in
+        reach-two g a v (r .0) l (below (r .0) (r .1)) (r .2) (omega (arith, ok .mutually v (r .0) l (below (r .0) (r .1)), r .3)))
 
 -- ---- a walk through the neighbours of a that joins their rows
 

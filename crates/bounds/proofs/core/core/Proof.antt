@@ -21,7 +21,7 @@ full-requires : tie.Need-full-requires Inv-loop μ-loop
 full-requires c κs = search needs
 
 loop-holds : tie.Need-loop-holds Inv-loop μ-loop
-loop-holds c = holds-dense-none _ _ (c .full .ensures ∙ ap full (c .before .count .ensures))
+loop-holds c = holds-dense-none (c .full .ensures ∙ ap full (c .before .count .ensures))
 
 pass-requires : tie.Need-pass-requires Inv-loop μ-loop
 pass-requires c κs = search needs

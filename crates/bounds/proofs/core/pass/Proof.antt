@@ -14,7 +14,7 @@ abbrev μ-loop : tie.MeasureT-loop
 μ-loop rows m kept₀ left₀ kept left = mask left
 
 loop-holds : tie.Need-loop-holds Inv-loop μ-loop
-loop-holds c = peeling-none _ _ _
+loop-holds c = peeling-none
 
 is-empty-requires : tie.Need-is-empty-requires Inv-loop μ-loop
 is-empty-requires c κs = search needs
