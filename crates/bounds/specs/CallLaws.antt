@@ -2,69 +2,72 @@
 use Prim.Native.Nat.{ℕ, _-_, _≤_, _<_}
 use native.Mathlib.Omega.{arith}
 use mathlib.Core.Path.{_≡_, sym, ap, _∙_}
-use mathlib.Core.List.{List, [], _∷_}
+use mathlib.Core.List.{List, [], _∷_, _++_}
 use lib.ListN.{length}
 use borrow.Author.Tests.{le-leb, lt-leb}
 use Rattle.judging.specs.Request.{request}
-use Rattle.judging.specs.Refusal.{refused, answered, firstOf, vertexOutCause}
+use Rattle.judging.specs.Refusal.{Reply, refused, answered, Cause, firstOf, vertexOutCause}
 use Rattle.judging.specs.Calls.{refusal, passed, checkedReply, graphCheck, requestCheck}
 use Rattle.judging.specs.Setting.{Sized, LowRows}
-use Rattle.judging.specs.RefusalLaws.{first-holds, first-skips, first-append, first-passed, graph-sized, graph-checked, slack-graph, slack-accepted, request-slack, floor-accepted}
-use Rattle.judging.specs.CallLaws.{check-failed}
+use Rattle.judging.specs.RefusalLaws.{first-holds, first-skips, first-append}
+use Rattle.judging.specs.RefusalLaws.{graph-sized, graph-checked, slack-graph, slack-accepted, request-slack, floor-accepted}
+use Rattle.judging.specs.CallLaws.{check-failed, check-passed, none-holds}
 use Rattle.judging.specs.declared.Refusal.{Refusal}
 use Rattle.judging.specs.declared.Checked.{Checked}
 use Rattle.judging.specs.declared.Checked.the-variants.{Passed, Failed}
-use Rattle.bounds.specs.Core.{core}
 use Rattle.bounds.specs.Reach.{reach}
-use Rattle.bounds.specs.Calls.{coreReply, reachCheck, reachReply}
+use Rattle.bounds.specs.Calls.{reachCheck, reachReply}
+
+-- ---- the outcome of a check
+
+-- what is found once it has passed is the call's answer
+pub answer-found : (cs : List Cause) {r : Checked} {m n : ℕ} → checkedReply r ≡ firstOf cs passed → r ≡ Passed → m ≡ n
+    → answered 0 m ≡ firstOf cs (answered 0 n)
+answer-found cs {r} {m} {n} h e q = ap (answered 0) q ∙ sym (check-passed cs r h (answered 0 n) e)
+
+-- the check was of the first causes alone, and others follow
+module _ {A : Type 0} (xs ys : List Cause) (o : Reply A) {r : Checked} (h : checkedReply r ≡ firstOf xs passed) where
+  pub front-refused : {f : Refusal} → r ≡ Failed f → refusal f ≡ firstOf (xs ++ ys) o
+  front-refused {f} e = check-failed xs r h f (firstOf ys o) e ∙ sym (first-append xs ys o)
+
+  pub front-accepted : r ≡ Passed → firstOf (xs ++ ys) o ≡ firstOf ys o
+  front-accepted e = first-append xs ys o ∙ check-passed xs r h (firstOf ys o) e
 
 -- ---- the core
 
-module _ (g : List ℕ) (k q : ℕ) (r : Checked) (h : checkedReply r ≡ firstOf (requestCheck g (request k q)) passed) where
-  pub core-refused : (f : Refusal) → r ≡ Failed f → refusal f ≡ coreReply g k q
-  unfolding coreReply
-  core-refused f e = check-failed (requestCheck g (request k q)) r h f (answered 0 (core g (q - k))) e
+module _ (g : List ℕ) (k q : ℕ) {r : Checked} (h : checkedReply r ≡ firstOf (requestCheck g (request k q)) passed) (e : r ≡ Passed) where
+  none : firstOf (requestCheck g (request k q)) passed ≡ passed
+  none = none-holds _ r h e
 
-  none : r ≡ Passed → firstOf (requestCheck g (request k q)) passed ≡ passed
-  none e = sym h ∙ ap checkedReply e
+  pub core-sized : Sized g
+  core-sized = graph-sized g (slack-graph g k (request-slack g (request k q) none))
 
-  pub core-sized : r ≡ Passed → Sized g
-  core-sized e = graph-sized g (slack-graph g k (request-slack g (request k q) (none e)))
+  pub core-floor : k ≤ q
+  core-floor = omega (arith, slack-accepted g k (request-slack g (request k q) none), floor-accepted g (request k q) none)
 
-  pub core-floor : r ≡ Passed → k ≤ q
-  core-floor e = omega (arith, slack-accepted g k (request-slack g (request k q) (none e)), floor-accepted g (request k q) (none e))
+-- ---- the reach: the vertex is looked at after the table
 
-  pub core-found : r ≡ Passed → (s : ℕ) → s ≡ core g (q - k) → answered 0 s ≡ coreReply g k q
-  unfolding coreReply
-  core-found e s c = ap (answered 0) c ∙ sym (first-passed (requestCheck g (request k q)) (answered 0 (core g (q - k))) (none e))
-
--- ---- the reach
-
-module _ (g : List ℕ) (v : ℕ) (r : Checked) (h : checkedReply r ≡ firstOf (graphCheck g) passed) where
-  -- the vertex is looked at after the table
-  then-vertex : reachReply g v ≡ firstOf (graphCheck g) (firstOf (vertexOutCause g v ∷ []) (answered 0 (reach g v)))
+module _ (g : List ℕ) (v : ℕ) {r : Checked} (h : checkedReply r ≡ firstOf (graphCheck g) passed) where
+  pub reach-refused : {f : Refusal} → r ≡ Failed f → refusal f ≡ reachReply g v
   unfolding reachReply reachCheck
-  then-vertex = first-append (graphCheck g) (vertexOutCause g v ∷ []) (answered 0 (reach g v))
+  reach-refused e = front-refused (graphCheck g) (vertexOutCause g v ∷ []) (answered 0 (reach g v)) h e
 
-  pub reach-refused : (f : Refusal) → r ≡ Failed f → refusal f ≡ reachReply g v
-  reach-refused f e = check-failed (graphCheck g) r h f (firstOf (vertexOutCause g v ∷ []) (answered 0 (reach g v))) e ∙ sym then-vertex
+  module _ (e : r ≡ Passed) where
+    only-vertex : reachReply g v ≡ firstOf (vertexOutCause g v ∷ []) (answered 0 (reach g v))
+    unfolding reachReply reachCheck
+    only-vertex = front-accepted (graphCheck g) (vertexOutCause g v ∷ []) (answered 0 (reach g v)) h e
 
-  nothing : r ≡ Passed → firstOf (graphCheck g) passed ≡ passed
-  nothing e = sym h ∙ ap checkedReply e
+    pub reach-ready : v < length g → LowRows g × (v < length g)
+    reach-ready l =
+        let none = none-holds _ r h e in
+        let z = graph-sized g none in
+        (record { some = z .some; most = z .most; low = graph-checked g none .low }, l)
 
-  only-vertex : r ≡ Passed → reachReply g v ≡ firstOf (vertexOutCause g v ∷ []) (answered 0 (reach g v))
-  only-vertex e = then-vertex ∙ first-passed (graphCheck g) (firstOf (vertexOutCause g v ∷ []) (answered 0 (reach g v))) (nothing e)
+    pub reach-outside-refused : length g ≤ v → refused 7 0 ≡ reachReply g v
+    unfolding vertexOutCause
+    reach-outside-refused l = sym (only-vertex ∙ first-holds (vertexOutCause g v) [] (answered 0 (reach g v)) (le-leb (length g) v l))
 
-  pub reach-ready : r ≡ Passed → v < length g → LowRows g × (v < length g)
-  reach-ready e l =
-      let z = graph-sized g (nothing e) in
-      (record { some = z .some; most = z .most; low = graph-checked g (nothing e) .low }, l)
-
-  pub reach-outside : r ≡ Passed → length g ≤ v → refused 7 0 ≡ reachReply g v
-  unfolding vertexOutCause
-  reach-outside e l = sym (only-vertex e ∙ first-holds (vertexOutCause g v) [] (answered 0 (reach g v)) (le-leb (length g) v l))
-
-  pub reach-found : r ≡ Passed → v < length g → (s : ℕ) → s ≡ reach g v → answered 0 s ≡ reachReply g v
-  unfolding vertexOutCause firstOf
-  reach-found e l s c =
-      ap (answered 0) c ∙ sym (only-vertex e ∙ first-skips (vertexOutCause g v) [] (answered 0 (reach g v)) (lt-leb (length g) v l))
+    pub reach-found : {s : ℕ} → v < length g → s ≡ reach g v → answered 0 s ≡ reachReply g v
+    unfolding vertexOutCause firstOf
+    reach-found l c =
+        ap (answered 0) c ∙ sym (only-vertex ∙ first-skips (vertexOutCause g v) [] (answered 0 (reach g v)) (lt-leb (length g) v l))

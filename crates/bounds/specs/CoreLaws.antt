@@ -5,20 +5,22 @@
 use Prim.Native.Nat.{ℕ, _-_, _^_, _≤_, _<_}
 use native.Mathlib.Nat.{le-trans, lt-of-le-of-lt}
 use native.Mathlib.Omega.{arith}
-use native.Mathlib.Decide.{ℕ-discrete}
-use mathlib.Core.Path.{_≡_, sym, ap, _∙_, subst}
+use mathlib.Core.Path.{_≡_, ap}
 use mathlib.Core.Bool.{Bool, _&&_}
 use mathlib.Core.List.{List}
 use lib.Pow.{pow-pos}
 use lib.Dec.{T, leb, leb→le, le→leb}
 use lib.ListN.{length}
 use Rattle.sets.specs.Ranges.{range, any}
-use Rattle.sets.specs.Set.{bit, has, In, Sub, size, without, full}
+use Rattle.sets.specs.Words.{Lowest}
+use Rattle.sets.specs.Set.{bit, has, Sub, size, without, full}
 use Rattle.sets.specs.RangeLaws.{mem-range, range-mem, any-elim, any-intro, and-left, and-right, both}
-use Rattle.sets.specs.BitLaws.{bit-le, bit-minus, bit-high}
+use Rattle.sets.specs.BitLaws.{bit-le, bit-minus}
+use Rattle.sets.specs.PointLaws.{single-out, by-bit}
 use Rattle.sets.specs.WordLaws.{bit-full}
-use Rattle.sets.specs.SubsetLaws.{sub-number, sub-refl, sub-trans, sub-antisym, sub-of-in, in-below, has-in, in-has, minus-sub, without-same, without-other}
+use Rattle.sets.specs.SubsetLaws.{sub-number, sub-refl, sub-trans, sub-antisym, sub-of-in, in-below, has-in, in-has, minus-sub, without-same}
 use Rattle.sets.specs.MemberLaws.{set-of-in, set-of-holds, set-of-below, all-members, members-all}
+use Rattle.sets.specs.WalkLaws.{Walked, walk-none, walk-more, walk-map, walk-all}
 use Rattle.judging.specs.Graph.{degree}
 use Rattle.judging.specs.Plex.{Plex}
 use Rattle.judging.specs.GraphLaws.{degree-missing, degree-mono}
@@ -47,9 +49,9 @@ unfolding core in-core dense-with
 core-below g m = set-of-below (in-core g m) (length g)
 
 -- it holds every dense set
-pub core-holds : (g : List ℕ) (m s : ℕ) → s < 2 ^ length g → Dense g m s → Sub s (core g m)
+pub core-complete : (g : List ℕ) (m s : ℕ) → s < 2 ^ length g → Dense g m s → Sub s (core g m)
 unfolding core in-core dense-with
-core-holds g m s b d =
+core-complete g m s b d =
     sub-of-in s (core g m) (λ v e.
     set-of-in (in-core g m) (length g) v (in-below (length g) s v b e)
     (any-intro (dense-with g m v) (range (2 ^ length g)) s (mem-range (2 ^ length g) s b)
@@ -62,76 +64,53 @@ core-dense g m v l e =
     let q = any-elim (dense-with g m v) (range (2 ^ length g)) (set-of-holds (in-core g m) (length g) v e .1) in
     let d = dense-holds g m (q .0) (and-right (has (q .0) v) (dense g m (q .0)) (q .2)) in
     le-trans (d v l (has-in (q .0) v (and-left (has (q .0) v) (dense g m (q .0)) (q .2))))
-    (degree-mono g (q .0) (core g m) v (core-holds g m (q .0) (range-mem (2 ^ length g) (q .0) (q .1)) d))
+    (degree-mono g (q .0) (core g m) v (core-complete g m (q .0) (range-mem (2 ^ length g) (q .0) (q .1)) d))
 
 -- nothing else is both
 pub core-unique : (g : List ℕ) (m c : ℕ) → c < 2 ^ length g → Dense g m c
     → ((s : ℕ) → s < 2 ^ length g → Dense g m s → Sub s c) → c ≡ core g m
-core-unique g m c b d h = sub-antisym c (core g m) (core-holds g m c b d) (h (core g m) (core-below g m) (core-dense g m))
+core-unique g m c b d h = sub-antisym c (core g m) (core-complete g m c b d) (h (core g m) (core-below g m) (core-dense g m))
 
 -- every plex of at least q members lies in the core of q - k
 pub plex-core : (g : List ℕ) (k q s : ℕ) → s < 2 ^ length g → Plex g k s → q ≤ size s → Sub s (core g (q - k))
-plex-core g k q s b p l = core-holds g (q - k) s b (λ v lv e. omega (arith, p v lv e, degree-missing g s v))
+plex-core g k q s b p l = core-complete g (q - k) s b (λ v lv e. omega (arith, p v lv e, degree-missing g s v))
 
--- ---- peeling
-
--- a vertex that is adjacent to fewer than m members of s is in no dense set inside s
-pub peel : (g : List ℕ) (m s t v : ℕ) → v < length g → degree g s v < m → Dense g m t → Sub t s → Sub t (without s v)
-peel g m s t v l few d h u = go (ℕ-discrete v u)
-  where
-    out : Dec (bit t v ≡ 1) → bit t v ≤ bit (without s v) v
-    out (yes e) = absurd (omega (arith, d v l e, degree-mono g t s v h))
-    out (no ne) = omega (arith, bit-le t v)
-
-    go : Dec (v ≡ u) → bit t u ≤ bit (without s v) u
-    go (no ne) = omega (arith, h u, without-other s v u ne)
-    go (yes e) = subst (λ (y : ℕ). bit t y ≤ bit (without s v) y) e (out (ℕ-discrete (bit t v) 1))
+-- ---- a pass
 
 -- what holds midway: of what was looked at, all that stayed has enough neighbours if nothing was taken out
 pub record Peeling (g : List ℕ) (m s left kept : ℕ) : Type 0 where
   pub part : Sub kept s
-  pub ahead : Sub left kept
   pub keeps : (t : ℕ) → Dense g m t → Sub t s → Sub t kept
-  pub still : kept ≡ s → (v : ℕ) → In v s → bit left v ≡ 0 → m ≤ degree g s v
+  pub walked : Walked (λ v. kept ≡ s → m ≤ degree g s v) s left
 
-module _ (g : List ℕ) (m s : ℕ) where
-  pub peeling-none : Peeling g m s s s
-  peeling-none =
-      record { part = sub-refl s; ahead = sub-refl s; keeps = λ t d h. h; still = λ q v e n. absurd (omega arith) }
+pub peeling-none : {g : List ℕ} {m s : ℕ} → Peeling g m s s s
+peeling-none {s = s} = record { part = sub-refl s; keeps = λ t d h. h; walked = walk-none _ s }
 
-  -- what is next is a vertex
-  pub peeling-next : (left kept v : ℕ) → s < 2 ^ length g → Peeling g m s left kept → In v left → v < length g
-  peeling-next left kept v b p e = in-below (length g) s v b (omega (arith, p .part v, p .ahead v, bit-le s v))
+module _ {g : List ℕ} {m s left kept v d : ℕ} (p : Peeling g m s left kept) (here : Lowest left v) (deg : d ≡ degree g kept v) where
+  -- v stays
+  pub peeling-same : m ≤ d → Peeling g m s (without left v) kept
+  peeling-same many =
+      let enough : (kept ≡ s → m ≤ degree g s v) = λ q. omega (arith, ap (λ (y : ℕ). degree g y v) q) in
+      record { part = p .part; keeps = p .keeps; walked = walk-more _ s left v (p .walked) enough }
 
-  -- v is next, and stays
-  pub peeling-stays : (left kept v d : ℕ) → Peeling g m s left kept → d ≡ degree g kept v → m ≤ d → Peeling g m s (without left v) kept
-  peeling-stays left kept v d p deg many =
+  -- v goes: it is in no dense set inside s, as it is adjacent to fewer than m of what is left of s
+  pub peeling-more : v < length g → d < m → Peeling g m s (without left v) (without kept v)
+  peeling-more l few =
       record {
-        part = p .part;
-        ahead = sub-trans (without left v) left kept (minus-sub left (2 ^ v)) (p .ahead);
-        keeps = p .keeps;
-        still = λ q u e n. go q u e n (ℕ-discrete v u);
+        part = sub-trans _ kept s (minus-sub kept (2 ^ v)) (p .part);
+        keeps = λ t dt h u.
+            let out = by-bit t v (λ i. absurd (omega (arith, dt v l i, degree-mono g t kept v (p .keeps t dt h)))) (λ o. o) in
+            omega (arith, p .keeps t dt h u, bit-minus kept (2 ^ v) u, single-out t v u out);
+        walked = walk-more _ s left v (walk-map _ _ s left (λ u h q. absurd (less q)) (p .walked)) (λ q. absurd (less q));
       }
     where
-      go : kept ≡ s → (u : ℕ) → In u s → bit (without left v) u ≡ 0 → Dec (v ≡ u) → m ≤ degree g s u
-      go q u e n (yes z) = subst (λ (y : ℕ). m ≤ degree g s y) z (omega (arith, many, deg, ap (λ (y : ℕ). degree g y v) q))
-      go q u e n (no nz) = p .still q u e (omega (arith, without-other left v u nz))
+      less : without kept v ≡ s → ⊥
+      less q = omega (arith, without-same kept v, ap (λ (y : ℕ). bit y v) q, p .walked .part v, here .member, bit-le s v)
 
-  -- v is next, and goes
-  pub peeling-goes : (left kept v d : ℕ) → v < length g → In v left → Peeling g m s left kept → d ≡ degree g kept v → d < m
-      → Peeling g m s (without left v) (without kept v)
-  peeling-goes left kept v d l e p deg few =
-      record {
-        part = sub-trans (without kept v) kept s (minus-sub kept (2 ^ v)) (p .part);
-        ahead = λ u. omega (arith, bit-minus left (2 ^ v) u, bit-minus kept (2 ^ v) u, p .ahead u);
-        keeps = λ t dt h. peel g m kept t v l (omega (arith, deg, few)) dt (p .keeps t dt h);
-        still = λ q. absurd (omega (arith, without-same kept v, ap (λ (y : ℕ). bit y v) q, p .part v, p .ahead v, e));
-      }
-
-  -- the pass is done
-  pub peeling-all : (left kept : ℕ) → left ≡ 0 → Peeling g m s left kept → Peeled g m s kept
-  peeling-all left kept z p =
-      record { part = p .part; keeps = p .keeps; still = λ q v l e. p .still q v e (ap (λ (y : ℕ). bit y v) z ∙ bit-high 0 v (pow-pos v)) }
+-- the pass is done
+pub peeling-all : {g : List ℕ} {m s left kept : ℕ} → Peeling g m s left kept → left ≡ 0 → Peeled g m s kept
+peeling-all {s = s} {left = left} p z =
+    record { part = p .part; keeps = p .keeps; still = λ q v l e. walk-all _ s left z (p .walked) v e q }
 
 -- ---- passes until none is taken
 
@@ -139,20 +118,20 @@ pub record HoldsDense (g : List ℕ) (m s : ℕ) : Type 0 where
   pub below : s < 2 ^ length g
   pub holds : (t : ℕ) → t < 2 ^ length g → Dense g m t → Sub t s
 
-module _ (g : List ℕ) (m : ℕ) where
-  pub full-dense : (s : ℕ) → s ≡ full (length g) → HoldsDense g m s
-  full-dense s e =
-      record {
-        below = omega (arith, e, pow-pos (length g));
-        holds = λ t b d. sub-of-in t s (λ v h. subst (λ (y : ℕ). In v y) (sym e) (bit-full (length g) v (in-below (length g) t v b h)));
-      }
+pub holds-dense-none : {g : List ℕ} {m s : ℕ} → s ≡ full (length g) → HoldsDense g m s
+holds-dense-none {g} {s = s} e =
+    record {
+      below = omega (arith, e, pow-pos (length g));
+      holds = λ t b d. sub-of-in t s (λ v h. rw e (bit-full (length g) v (in-below (length g) t v b h)));
+    }
 
-  pub peeled-dense : (s r : ℕ) → HoldsDense g m s → Peeled g m s r → HoldsDense g m r
-  peeled-dense s r h p =
-      record { below = lt-of-le-of-lt (sub-number r s (p .part)) (h .below); holds = λ t b d. p .keeps t d (h .holds t b d) }
+module _ {g : List ℕ} {m s r : ℕ} (p : Peeled g m s r) where
+  pub peeled-falls : (r ≡ s → ⊥) → r < s
+  peeled-falls ne = omega (arith, sub-number r s (p .part))
 
-  pub peeled-less : (s r : ℕ) → Peeled g m s r → (r ≡ s → ⊥) → r < s
-  peeled-less s r p ne = omega (arith, sub-number r s (p .part))
+  module _ (h : HoldsDense g m s) where
+    pub holds-dense-next : HoldsDense g m r
+    holds-dense-next = record { below = lt-of-le-of-lt (sub-number r s (p .part)) (h .below); holds = λ t b d. p .keeps t d (h .holds t b d) }
 
-  pub peeled-core : (s r : ℕ) → HoldsDense g m s → Peeled g m s r → r ≡ s → s ≡ core g m
-  peeled-core s r h p e = core-unique g m s (h .below) (p .still e) (h .holds)
+    pub holds-dense-all : r ≡ s → s ≡ core g m
+    holds-dense-all e = core-unique g m s (h .below) (p .still e) (h .holds)

@@ -20,10 +20,10 @@ use Rattle.bounds.specs.Bound.{firstBound, secondBound, largest}
 use Rattle.bounds.specs.Calls.{coreReply, reachCheck, reachReply}
 use Rattle.bounds.specs.BoundCalls.{boundCheck, firstBoundReply, secondBoundReply}
 use Rattle.bounds.specs.BoundSetting.{Boundable}
-use Rattle.bounds.specs.CoreLaws.{core-below, core-holds, core-dense, plex-core}
+use Rattle.bounds.specs.CoreLaws.{core-below, core-complete, core-dense, plex-core}
 use Rattle.bounds.specs.ReachLaws.{plex-reach}
 use Rattle.bounds.specs.BoundLaws.{second-first}
-use Rattle.bounds.specs.BoundSound.{second-sound, first-largest, second-largest}
+use Rattle.bounds.specs.BoundSound.{second-sound, second-largest}
 use Rattle.bounds.specs.BoundCallLaws.{bound-checked}
 
 -- ---- the core
@@ -46,7 +46,7 @@ module _ (g : List ℕ) (k q : ℕ) {v c : ℕ} (e : coreReply g k q ≡ answere
 
   -- the largest one
   pub core-holds-dense : (s : ℕ) → s < 2 ^ length g → Dense g (q - k) s → Sub s c
-  core-holds-dense s b d = subst (Sub s) (sym core-answer) (core-holds g (q - k) s b d)
+  core-holds-dense s b d = subst (Sub s) (sym core-answer) (core-complete g (q - k) s b d)
 
   -- so no k-plex of q or more members has a vertex outside it
   pub core-holds-plexes : (s : ℕ) → s < 2 ^ length g → Plex g k s → q ≤ size s → Sub s c
@@ -75,60 +75,59 @@ module _ (g : List ℕ) (v : ℕ) {x r : ℕ} (e : reachReply g v ≡ answered x
 
 module _ (g : List ℕ) (k s c v : ℕ) where
   -- an input of which a bound n is answered
-  bounded : (n : ℕ) {x b : ℕ} → firstOf (boundCheck g k s c v) (answered 0 n) ≡ answered x b → Boundable g k s c v
-  bounded n e = bound-checked g k s c v (answered-passed (boundCheck g k s c v) 0 _ n _ e)
+  module _ (n : ℕ) {x b : ℕ} (e : firstOf (boundCheck g k s c v) (answered 0 n) ≡ answered x b) where
+    bound-value : x ≡ 0
+    bound-value = answered-value (boundCheck g k s c v) 0 n e
 
-  -- no plex that holds s and v and has no vertex outside s and c is larger than the second bound
-  second-most : Boundable g k s c v → (m : ℕ) → m < 2 ^ length g → Plex g k m → Sub (with s v) m → Sub m (bitOr s c) → size m ≤ secondBound g k s c v
-  second-most a m l p w u =
-      second-sound g k s c v m (a .valid) (a .supported .inside .below) l p (sub-trans s (with s v) m (sub-with s v) w)
-      (in-of-sub (with s v) m v w (with-same s v)) u (a .apart)
+    bound-answer : b ≡ n
+    bound-answer = answered-found (boundCheck g k s c v) 0 n e
 
-  second-least : Boundable g k s c v → secondBound g k s c v ≤ firstBound g k s c v
-  second-least a = second-first g s (a .supported .inside .below) k c v
+    bounded : Boundable g k s c v
+    bounded = bound-checked g k s c v (answered-passed (boundCheck g k s c v) 0 x n b e)
+
+    -- no plex that holds s and v and has no vertex outside s and c is larger than the second bound
+    second-most : (m : ℕ) → m < 2 ^ length g → Plex g k m → Sub (with s v) m → Sub m (bitOr s c) → size m ≤ secondBound g k s c v
+    second-most m l p w u =
+        second-sound g k s c v m (bounded .valid) (bounded .supported .inside .below) l p (sub-trans s (with s v) m (sub-with s v) w)
+        (in-of-sub (with s v) m v w (with-same s v)) u (bounded .apart)
+
+    second-over-largest : largest g k s c v ≤ secondBound g k s c v
+    second-over-largest = second-largest g k s c v (bounded .valid) (bounded .supported .inside .below) (bounded .apart)
 
   module _ {x b : ℕ} (e : secondBoundReply g k s c v ≡ answered x b) where
     pub second-value : x ≡ 0
     unfolding secondBoundReply
-    second-value = answered-value (boundCheck g k s c v) 0 (secondBound g k s c v) e
+    second-value = bound-value (secondBound g k s c v) e
 
     pub second-answer : b ≡ secondBound g k s c v
     unfolding secondBoundReply
-    second-answer = answered-found (boundCheck g k s c v) 0 (secondBound g k s c v) e
-
-    second-bounded : Boundable g k s c v
-    unfolding secondBoundReply
-    second-bounded = bounded (secondBound g k s c v) e
+    second-answer = bound-answer (secondBound g k s c v) e
 
     pub second-above-plexes : (m : ℕ) → m < 2 ^ length g → Plex g k m → Sub (with s v) m → Sub m (bitOr s c) → size m ≤ b
-    second-above-plexes m l p w u = omega (arith, second-answer, second-most second-bounded m l p w u)
+    unfolding secondBoundReply
+    second-above-plexes m l p w u = omega (arith, second-answer, second-most (secondBound g k s c v) e m l p w u)
 
     pub second-above-largest : largest g k s c v ≤ b
-    second-above-largest =
-        let a = second-bounded in
-        omega (arith, second-answer, second-largest g k s c v (a .valid) (a .supported .inside .below) (a .apart))
+    unfolding secondBoundReply
+    second-above-largest = omega (arith, second-answer, second-over-largest (secondBound g k s c v) e)
 
   module _ {x b : ℕ} (e : firstBoundReply g k s c v ≡ answered x b) where
     pub first-value : x ≡ 0
     unfolding firstBoundReply
-    first-value = answered-value (boundCheck g k s c v) 0 (firstBound g k s c v) e
+    first-value = bound-value (firstBound g k s c v) e
 
     pub first-answer : b ≡ firstBound g k s c v
     unfolding firstBoundReply
-    first-answer = answered-found (boundCheck g k s c v) 0 (firstBound g k s c v) e
-
-    first-bounded : Boundable g k s c v
-    unfolding firstBoundReply
-    first-bounded = bounded (firstBound g k s c v) e
+    first-answer = bound-answer (firstBound g k s c v) e
 
     pub first-above-plexes : (m : ℕ) → m < 2 ^ length g → Plex g k m → Sub (with s v) m → Sub m (bitOr s c) → size m ≤ b
-    first-above-plexes m l p w u = omega (arith, first-answer, second-most first-bounded m l p w u, second-least first-bounded)
+    unfolding firstBoundReply
+    first-above-plexes m l p w u = omega (arith, first-answer, second-most (firstBound g k s c v) e m l p w u, second-first g k s c v)
 
     pub first-above-largest : largest g k s c v ≤ b
-    first-above-largest =
-        let a = first-bounded in
-        omega (arith, first-answer, first-largest g k s c v (a .valid) (a .supported .inside .below) (a .apart))
+    unfolding firstBoundReply
+    first-above-largest = omega (arith, first-answer, second-over-largest (firstBound g k s c v) e, second-first g k s c v)
 
     -- the second bound never exceeds the first
     pub second-within-first : {y d : ℕ} → secondBoundReply g k s c v ≡ answered y d → d ≤ b
-    second-within-first f = omega (arith, first-answer, second-answer f, second-least first-bounded)
+    second-within-first f = omega (arith, first-answer, second-answer f, second-first g k s c v)

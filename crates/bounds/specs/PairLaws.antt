@@ -1,7 +1,6 @@
 -- Laws of common neighbours: how many two members of a plex have.
 use Prim.Native.Nat.{ℕ, _+_, _*_, _^_, _≤_, _<_}
 use native.Mathlib.Omega.{arith}
-use native.Mathlib.Decide.{ℕ-discrete}
 use mathlib.Core.Path.{_≡_}
 use mathlib.Core.Logic.{_≢_}
 use mathlib.Core.List.{List}
@@ -10,6 +9,7 @@ use lib.ListN.{length}
 use Rattle.sets.specs.Set.{bit, In, Sub, size, minus}
 use Rattle.sets.specs.Graph.{row}
 use Rattle.sets.specs.BitLaws.{bit-le, bit-and, bit-or, bit-minus}
+use Rattle.sets.specs.PointLaws.{by-bit}
 use Rattle.sets.specs.SubsetLaws.{sub-refl, in-below}
 use Rattle.sets.specs.SizeLaws.{size-minus, size-or, size-mono, some-member}
 use Rattle.judging.specs.Graph.{missing, Valid}
@@ -24,7 +24,9 @@ module _ (g : List ℕ) (k : ℕ) (ok : Valid g) where
       → size x + 2 ≤ common g s u v + 2 * k + 2 * bit (row g u) v
   unfolding common missing
   pair-common s x u v b p h hu hv ne =
-      omega (arith, p u (in-below _ x u b hu) hu, p v (in-below _ x v b hv) hv, size-or mu mv, size-minus x (bitOr mu mv), covered, shared, apart (ℕ-discrete (bit (row g u) v) 1))
+      let du = p u (in-below _ x u b hu) hu in
+      let dv = p v (in-below _ x v b hv) hv in
+      omega (arith, size-or mu mv, size-minus x (bitOr mu mv), covered, shared, apart)
     where
       mu : ℕ
       mu = minus x (row g u)
@@ -38,11 +40,13 @@ module _ (g : List ℕ) (k : ℕ) (ok : Valid g) where
       shared : size (minus x (bitOr mu mv)) ≤ size (bitAnd s (bitAnd (row g u) (row g v)))
       shared =
           size-mono _ _ (λ w.
-          omega (arith, h w, bit-minus x (bitOr mu mv) w, bit-or mu mv w, bit-minus x (row g u) w, bit-minus x (row g v) w, bit-and s (bitAnd (row g u) (row g v)) w, bit-and (row g u) (row g v) w, bit-le x w, bit-le s w))
+          let both = bit-and s (bitAnd (row g u) (row g v)) w in
+          let rows = bit-and (row g u) (row g v) w in
+          let missed = bit-or mu mv w in
+          omega (arith, h w, bit-minus x (bitOr mu mv) w, bit-minus x (row g u) w, bit-minus x (row g v) w, bit-le x w, bit-le s w))
 
-      apart : Dec (bit (row g u) v ≡ 1) → 2 ≤ size (bitAnd mu mv) + 2 * bit (row g u) v
-      apart (yes e) = omega arith
-      apart (no nl) = omega (arith, miss-both g x u v ok b hu hv ne (omega (arith, bit-le (row g u) v)))
+      apart : 2 ≤ size (bitAnd mu mv) + 2 * bit (row g u) v
+      apart = by-bit (row g u) v (λ e. omega arith) (λ o. omega (arith, miss-both g x u v ok b hu hv ne o))
 
   -- 001, Lemma 1: two members of a plex of 2k - 1 or more vertices that are not adjacent have a common neighbour among the members
   pub common-neighbour : (s u v : ℕ) → s < 2 ^ length g → Plex g k s → 2 * k ≤ size s + 1 → In u s → In v s → u ≢ v → bit (row g u) v ≡ 0

@@ -1,37 +1,36 @@
--- Laws of the member with the least support: it is found by one walk, and it depends on the supports of the members alone.
-use Prim.Native.Nat.{ℕ, suc, _-_, _^_, _≤_, _<_}
+-- Laws of the member with the least support: one walk finds it, u is not adjacent to it, and it depends on the supports of the members alone.
+--
+--   NonNeighbour g s w u       w is a member of s that u is not adjacent to
+--   Agree g s sp tp            sp and tp have the same supports for the members of s
+--   Choosing sp s best left    of the members of s those of left are still to come, and best has the least support of the others
+use Prim.Native.Nat.{ℕ, _^_, _≤_, _<_}
 use native.Mathlib.Nat.{le-refl}
 use native.Mathlib.Omega.{arith}
-use native.Mathlib.Decide.{ℕ-discrete, decLe, decLt}
-use mathlib.Core.Path.{_≡_, refl, sym, ap, ap₂, _∙_, subst}
-use mathlib.Core.Bool.{not, _&&_, cond}
-use mathlib.Core.List.{List, [], _∷_, List·Memᴰ·head, List·Memᴰ·tail}
-use lib.Dec.{T, leb}
-use lib.ListN.{length, getD, set}
-use lib.Seq.{getD-set-same, getD-set-other}
+use native.Mathlib.Decide.{decLe}
+use mathlib.Core.Path.{_≡_, refl, sym, ap, ap₂, _∙_}
+use mathlib.Core.Bool.{Bool, true, false, not, _&&_, cond}
+use mathlib.Core.List.{List, [], _∷_, List·Memᴰ·head, List·Memᴰ·tail, List·Memᴰ·not-nil}
+use lib.Dec.{leb}
+use lib.ListN.{length, getD}
 use borrow.Author.Tests.{le-leb, lt-leb}
 use Rattle.sets.specs.Ranges.{range, keep}
-use Rattle.sets.specs.Set.{has, In, Sub, minus, without, members}
+use Rattle.sets.specs.Set.{bit, has, In, Sub, minus, without, members}
 use Rattle.sets.specs.Words.{width, Lowest}
 use Rattle.sets.specs.Graph.{row}
-use Rattle.sets.specs.RangeLaws.{Mem, range-mem, keep-mem, and-left, and-right, both}
+use Rattle.sets.specs.RangeLaws.{Mem, mem-range, range-mem, keep-mem, mem-keep, and-left, and-right, both}
 use Rattle.sets.specs.BitLaws.{bit-le, bit-minus}
-use Rattle.sets.specs.SubsetLaws.{has-in, in-has, not-in, not-has, sub-trans, minus-sub, in-of-sub, in-below, positive}
+use Rattle.sets.specs.SubsetLaws.{has-in, in-has, not-in, not-has, sub-trans, minus-sub, in-below, positive}
 use Rattle.sets.specs.SizeLaws.{some-member, minus-below}
-use Rattle.judging.specs.Graph.{adjacent, missing}
-use Rattle.bounds.specs.Bound.{lesser, least, tightest, kept}
-use Rattle.bounds.specs.BoundSetting.{LeastMember}
 use Rattle.sets.specs.KeepLaws.{keep-keep}
-use Rattle.sets.specs.MemberLaws.{members-keep, members-none, members-lowest}
-use Rattle.bounds.specs.BoundLaws.{least-mem, after, after-length, tightest-apart, kept-costly, kept-free, kept-charged, kept-unsupported}
+use Rattle.sets.specs.MemberLaws.{members-keep, members-none, members-lowest, member-in}
+use Rattle.sets.specs.WalkLaws.{walk-below}
+use Rattle.judging.specs.Graph.{adjacent, missing}
+use Rattle.judging.specs.Setting.{Inside}
+use Rattle.bounds.specs.Bound.{lesser, least, tightest}
+use Rattle.bounds.specs.BoundSetting.{LeastMember}
+use Rattle.bounds.specs.ListLaws.{spent, spent-length, spent-at}
 
--- ---- the least support, by one walk
-
--- of the members of s those of left are still to come, and best has the least support of the others
-pub record Choosing (sp : List ℕ) (s best left : ℕ) : Type 0 where
-  pub fits : best < width
-  pub part : Sub left s
-  pub same : (n : ℕ) → s < 2 ^ n → least sp 0 (best ∷ members n left) ≡ least sp 0 (members n s)
+-- ---- the lesser of two, and the least of a list
 
 module _ (sp : List ℕ) where
   pub lesser-left : (a b : ℕ) → getD sp a 0 ≤ getD sp b 0 → lesser sp a b ≡ a
@@ -43,62 +42,141 @@ module _ (sp : List ℕ) where
   lesser-right a b h = simp (lt-leb (getD sp a 0) (getD sp b 0) h)
 
   lesser-assoc : (a b c : ℕ) → lesser sp a (lesser sp b c) ≡ lesser sp (lesser sp a b) c
-  lesser-assoc a b c = go (decLe (getD sp a 0) (getD sp b 0)) (decLe (getD sp b 0) (getD sp c 0)) (decLe (getD sp a 0) (getD sp c 0))
+  lesser-assoc a b c = go (decLe (getD sp a 0) (getD sp b 0)) (decLe (getD sp b 0) (getD sp c 0))
     where
-      go : Dec (getD sp a 0 ≤ getD sp b 0) → Dec (getD sp b 0 ≤ getD sp c 0) → Dec (getD sp a 0 ≤ getD sp c 0) → lesser sp a (lesser sp b c) ≡ lesser sp (lesser sp a b) c
-      go (yes p) (yes q) (no nr) = absurd (omega arith)
-      go (yes p) (yes q) (yes r) = ap (lesser sp a) (lesser-left b c q) ∙ lesser-left a b p ∙ sym (ap (λ (x : ℕ). lesser sp x c) (lesser-left a b p) ∙ lesser-left a c r)
-      go (yes p) (no nq) r = ap (lesser sp a) (lesser-right b c (omega arith)) ∙ sym (ap (λ (x : ℕ). lesser sp x c) (lesser-left a b p))
-      go (no np) (yes q) r = ap (lesser sp a) (lesser-left b c q) ∙ lesser-right a b (omega arith) ∙ sym (ap (λ (x : ℕ). lesser sp x c) (lesser-right a b (omega arith)) ∙ lesser-left b c q)
-      go (no np) (no nq) r =
-          ap (lesser sp a) (lesser-right b c (omega arith)) ∙ lesser-right a c (omega arith)
-          ∙ sym (ap (λ (x : ℕ). lesser sp x c) (lesser-right a b (omega arith)) ∙ lesser-right b c (omega arith))
+      go : Dec (getD sp a 0 ≤ getD sp b 0) → Dec (getD sp b 0 ≤ getD sp c 0) → lesser sp a (lesser sp b c) ≡ lesser sp (lesser sp a b) c
+      go (yes p) (yes q) = rw (lesser-left b c q, lesser-left a b p, lesser-left a c (omega arith))
+      go (yes p) (no nq) = rw (lesser-right b c (omega arith), lesser-left a b p)
+      go (no np) (yes q) = rw (lesser-left b c q, lesser-right a b (omega arith), lesser-left b c q)
+      go (no np) (no nq) = rw (lesser-right b c (omega arith), lesser-right a b (omega arith), lesser-right b c (omega arith), lesser-right a c (omega arith))
+
+  lesser-mem : (a b : ℕ) (xs : List ℕ) → Mem a xs → Mem b xs → Mem (lesser sp a b) xs
+  unfolding lesser
+  lesser-mem a b xs ha hb = go (leb (getD sp a 0) (getD sp b 0))
+    where
+      go : (t : Bool) → Mem (cond t a b) xs
+      go true = ha
+      go false = hb
+
+  least-mem : (d : ℕ) (xs : List ℕ) → Mem (least sp d xs) (d ∷ xs)
+  unfolding least
+  least-mem d [] = List·Memᴰ·head refl
+  least-mem d (x ∷ xs) = List·Memᴰ·tail (lesser-mem x (least sp x xs) (x ∷ xs) (List·Memᴰ·head refl) (least-mem x xs))
+
+  -- of a list that has an element the least is one of them
+  least-some : (d : ℕ) {x : ℕ} {xs : List ℕ} → Mem x xs → Mem (least sp d xs) xs
+  unfolding least
+  least-some d {xs = []} m = absurd (List·Memᴰ·not-nil m)
+  least-some d {xs = y ∷ ys} m = lesser-mem y (least sp y ys) (y ∷ ys) (List·Memᴰ·head refl) (least-mem y ys)
 
   -- the first two of a list make way for the lesser of them
-  pub least-step : (d a b : ℕ) (xs : List ℕ) → least sp d (a ∷ b ∷ xs) ≡ least sp d (lesser sp a b ∷ xs)
+  least-step : (d a b : ℕ) (xs : List ℕ) → least sp d (a ∷ b ∷ xs) ≡ least sp d (lesser sp a b ∷ xs)
   unfolding least
   least-step d a b [] =
       ap (lesser sp a) (lesser-left b b (le-refl (getD sp b 0))) ∙ sym (lesser-left (lesser sp a b) (lesser sp a b) (le-refl (getD sp (lesser sp a b) 0)))
   least-step d a b (x ∷ xs) = lesser-assoc a b (lesser sp x (least sp x xs))
 
-  pub least-one : (d a : ℕ) → least sp d (a ∷ []) ≡ a
+  least-one : (d a : ℕ) → least sp d (a ∷ []) ≡ a
   unfolding least
   least-one d a = lesser-left a a (le-refl (getD sp a 0))
 
-  module _ (s : ℕ) where
-    pub choose-first : (v left : ℕ) → Lowest s v → left ≡ without s v → Choosing sp s v left
-    choose-first v left here e =
-        record {
-          fits = here .fits;
-          part = subst (λ (x : ℕ). Sub x s) (sym e) (minus-sub s (2 ^ v));
-          same = λ n l.
-              ap (λ (x : ℕ). least sp 0 (v ∷ members n x)) e
-              ∙ ap (least sp 0) (sym (members-lowest s v (here .member) (here .least) n (in-below n s v l (here .member))));
-        }
+-- ---- the least support, by one walk
 
-    pub choose-next : (best left w best′ left′ : ℕ) → Choosing sp s best left → Lowest left w → left′ ≡ without left w → best′ ≡ lesser sp best w → best′ < width
-        → Choosing sp s best′ left′
-    choose-next best left w best′ left′ y here e q fits =
-        record {
-          fits = fits;
-          part = subst (λ (x : ℕ). Sub x s) (sym e) (sub-trans (without left w) left s (minus-sub left (2 ^ w)) (y .part));
-          same = λ n l.
-              ap₂ (λ (x z : ℕ). least sp 0 (x ∷ members n z)) q e
-              ∙ sym (least-step 0 best w (members n (without left w)))
-              ∙ ap (λ (xs : List ℕ). least sp 0 (best ∷ xs))
-              (sym (members-lowest left w (here .member) (here .least) n (in-below n s w l (in-of-sub left s w (y .part) (here .member)))))
-              ∙ y .same n l;
-        }
+pub record Choosing (sp : List ℕ) (s best left : ℕ) : Type 0 where
+  pub fits : best < width
+  pub part : Sub left s
+  pub same : (n : ℕ) → s < 2 ^ n → least sp 0 (best ∷ members n left) ≡ least sp 0 (members n s)
 
-    pub choose-all : (best left : ℕ) → left ≡ 0 → Choosing sp s best left → LeastMember sp s best
-    choose-all best left z y =
-        record {
-          fits = y .fits;
-          is = λ n l.
-              sym (least-one 0 best) ∙ ap (λ (xs : List ℕ). least sp 0 (best ∷ xs)) (sym (ap (members n) z ∙ members-none n)) ∙ y .same n l;
-        }
+pub choosing-none : (sp : List ℕ) {s v left : ℕ} → Lowest s v → left ≡ without s v → Choosing sp s v left
+choosing-none sp {s} {v} here e =
+    record {
+      fits = here .fits;
+      part = rw e (minus-sub s (2 ^ v));
+      same = λ n l.
+          ap (λ (x : ℕ). least sp 0 (v ∷ members n x)) e
+          ∙ ap (least sp 0) (sym (members-lowest s v (here .member) (here .least) n (in-below n s v l (here .member))));
+    }
+
+pub choosing-next : {sp : List ℕ} {s best left w best′ left′ : ℕ} → Choosing sp s best left → Lowest left w → left′ ≡ without left w
+    → best′ < width → best′ ≡ lesser sp best w → Choosing sp s best′ left′
+choosing-next {sp} {s} {best} {left} {w} y here e fits q =
+    record {
+      fits = fits;
+      part = rw e (sub-trans (without left w) left s (minus-sub left (2 ^ w)) (y .part));
+      same = λ n l.
+          ap₂ (λ (x z : ℕ). least sp 0 (x ∷ members n z)) q e
+          ∙ sym (least-step sp 0 best w (members n (without left w)))
+          ∙ ap (λ (xs : List ℕ). least sp 0 (best ∷ xs))
+          (sym (members-lowest left w (here .member) (here .least) n (walk-below n s left w l (y .part) here)))
+          ∙ y .same n l;
+    }
+
+pub choosing-all : {sp : List ℕ} {s best left : ℕ} → Choosing sp s best left → left ≡ 0 → LeastMember sp s best
+choosing-all {sp} {s} {best} y z =
+    record {
+      fits = y .fits;
+      is = λ n l.
+          sym (least-one sp 0 best) ∙ ap (λ (xs : List ℕ). least sp 0 (best ∷ xs)) (sym (ap (members n) z ∙ members-none n)) ∙ y .same n l;
+    }
+
+-- ---- the tightest
+
+-- the members that u is not adjacent to, as a set
+tightest-least : (g : List ℕ) (s : ℕ) (sp : List ℕ) (u : ℕ) → tightest g s sp u ≡ least sp 0 (members (length g) (minus s (row g u)))
+unfolding tightest members adjacent
+tightest-least g s sp u =
+    let r = row g u in
+    ap (least sp 0)
+    (keep-keep (has s) (λ w. not (has r w)) (range (length g))
+    ∙ sym (members-keep (length g) (minus s r) (λ w. has s w && not (has r w))
+    (λ w l e.
+    let b = bit-minus s r w in
+    both (has s w) (not (has r w)) (in-has s w (omega (arith, bit-le s w))) (not-has r w (omega (arith, bit-le s w))))
+    (λ w l t.
+    let i = has-in s w (and-left (has s w) (not (has r w)) t) in
+    omega (arith, bit-minus s r w, not-in r w (and-right (has s w) (not (has r w)) t)))))
+
+pub record NonNeighbour (g : List ℕ) (s w u : ℕ) : Type 0 where
+  pub below : w < length g
+  pub member : In w s
+  pub apart : bit (row g u) w ≡ 0
+
+mem-members : (n s v : ℕ) → v < n → In v s → Mem v (members n s)
+unfolding members
+mem-members n s v l e = mem-keep (has s) (range n) v (mem-range n v l) (in-has s v e)
+
+-- a vertex that costs something has a tightest
+pub tightest-apart : {g : List ℕ} {s : ℕ} → s < 2 ^ length g → (sp : List ℕ) {u : ℕ} → 0 < missing g s u → NonNeighbour g s (tightest g s sp u) u
+unfolding missing
+tightest-apart {g} {s} low sp {u} h =
+    let n = length g in
+    let t = minus s (row g u) in
+    let w = tightest g s sp u in
+    let x = some-member t h in
+    let m = mem-members n t (x .0) (in-below n t (x .0) (minus-below n s (row g u) low) (x .1)) (x .1) in
+    let i : In w t = rw (tightest-least g s sp u) (member-in n t (least sp 0 (members n t)) (least-some sp 0 m)) in
+    let member : In w s = omega (arith, bit-minus s (row g u) w, bit-le s w) in
+    record { below = in-below n s w low member; member = member; apart = omega (arith, bit-minus s (row g u) w, bit-le s w) }
+
+-- and the walk finds it
+pub least-tightest : {g : List ℕ} {s : ℕ} {sp : List ℕ} (u : ℕ) {m w : ℕ} → Inside g s → m ≡ minus s (row g u) → LeastMember sp m w → w ≡ tightest g s sp u
+least-tightest {g} {s} {sp} u i e y =
+    y .is (length g) (rw e (minus-below (length g) s (row g u) (i .below)))
+    ∙ ap (λ (z : ℕ). least sp 0 (members (length g) z)) e
+    ∙ sym (tightest-least g s sp u)
+
+pub non-neighbours-some : (g : List ℕ) (s u : ℕ) {m : ℕ} → m ≡ minus s (row g u) → 0 < missing g s u → 0 < m
+unfolding missing
+non-neighbours-some g s u e p =
+    let x = some-member (minus s (row g u)) p in
+    rw e (positive (minus s (row g u)) (x .0) (x .1))
 
 -- ---- supports that agree at the members
+
+pub record Agree (g : List ℕ) (s : ℕ) (sp tp : List ℕ) : Type 0 where
+  pub each : (w : ℕ) → w < length g → In w s → getD sp w 0 ≡ getD tp w 0
+  pub long : length g ≤ length sp
+  pub wide : length g ≤ length tp
 
 least-agree : (sp tp : List ℕ) (d : ℕ) (xs : List ℕ) → ((x : ℕ) → Mem x xs → getD sp x 0 ≡ getD tp x 0) → least sp d xs ≡ least tp d xs
 unfolding least lesser
@@ -108,92 +186,19 @@ least-agree sp tp d (x ∷ xs) e =
     ap₂ (λ (a b : ℕ). cond (leb a b) x (least sp x xs)) (e x (List·Memᴰ·head refl)) (e (least sp x xs) (least-mem sp x xs))
     ∙ ap (λ (y : ℕ). cond (leb (getD tp x 0) (getD tp y 0)) x y) i
 
--- one less at i in both
-less-agree : (sp tp : List ℕ) (i w : ℕ) → w < length sp → w < length tp → getD sp w 0 ≡ getD tp w 0
-    → getD (set sp i (getD sp i 0 - 1)) w 0 ≡ getD (set tp i (getD tp i 0 - 1)) w 0
-less-agree sp tp i w a b e = go (ℕ-discrete w i)
-  where
-    go : Dec (w ≡ i) → getD (set sp i (getD sp i 0 - 1)) w 0 ≡ getD (set tp i (getD tp i 0 - 1)) w 0
-    go (yes z) =
-        subst (λ (x : ℕ). getD (set sp x (getD sp x 0 - 1)) w 0 ≡ getD (set tp x (getD tp x 0 - 1)) w 0) z
-        (getD-set-same sp w (getD sp w 0 - 1) 0 a ∙ ap (λ (x : ℕ). x - 1) e ∙ sym (getD-set-same tp w (getD tp w 0 - 1) 0 b))
-    go (no nz) = getD-set-other sp i w (getD sp i 0 - 1) 0 nz ∙ e ∙ sym (getD-set-other tp i w (getD tp i 0 - 1) 0 nz)
-
-module _ (g : List ℕ) (s : ℕ) (low : s < 2 ^ length g) where
-  -- the members that u is not adjacent to, as a set
-  pub tightest-least : (sp : List ℕ) (u : ℕ) → tightest g s sp u ≡ least sp 0 (members (length g) (minus s (row g u)))
-  unfolding tightest members adjacent
-  tightest-least sp u =
-      ap (least sp 0)
-      (keep-keep (has s) (λ w. not (has (row g u) w)) (range (length g))
-      ∙ sym (members-keep (length g) (minus s (row g u)) (λ w. has s w && not (has (row g u) w)) (λ w l e. into w e) (λ w l t. back w t)))
-    where
-      into : (w : ℕ) → In w (minus s (row g u)) → T (has s w && not (has (row g u) w))
-      into w e =
-          both (has s w) (not (has (row g u) w)) (in-has s w (omega (arith, e, bit-minus s (row g u) w, bit-le s w)))
-          (not-has (row g u) w (omega (arith, e, bit-minus s (row g u) w, bit-le s w)))
-
-      back : (w : ℕ) → T (has s w && not (has (row g u) w)) → In w (minus s (row g u))
-      back w t =
-          omega (
-            arith,
-            bit-minus s (row g u) w,
-            has-in s w (and-left (has s w) (not (has (row g u) w)) t),
-            not-in (row g u) w (and-right (has s w) (not (has (row g u) w)) t),
-          )
-
-  -- a vertex that costs something has a tightest, and the walk finds it
-  pub non-neighbours-some : (u m : ℕ) → m ≡ minus s (row g u) → 0 < missing g s u → 0 < m
-  unfolding missing
-  non-neighbours-some u m e p =
-      let x = some-member (minus s (row g u)) p in
-      subst (λ (z : ℕ). 0 < z) (sym e) (positive (minus s (row g u)) (x .0) (x .1))
-
-  pub least-tightest : (sp : List ℕ) (u m w : ℕ) → m ≡ minus s (row g u) → LeastMember sp m w → w ≡ tightest g s sp u
-  least-tightest sp u m w e y =
-      y .is (length g) (subst (λ (z : ℕ). z < 2 ^ length g) (sym e) (minus-below (length g) s (row g u) low))
-      ∙ ap (λ (z : ℕ). least sp 0 (members (length g) z)) e
-      ∙ sym (tightest-least sp u)
-
-  abbrev pub Agree : List ℕ → List ℕ → Type 0
-  Agree sp tp = (w : ℕ) → w < length g → In w s → getD sp w 0 ≡ getD tp w 0
-
-  tightest-agree : (sp tp : List ℕ) (u : ℕ) → Agree sp tp → tightest g s sp u ≡ tightest g s tp u
+module _ {g : List ℕ} {s : ℕ} {sp tp : List ℕ} (a : Agree g s sp tp) where
+  pub tightest-agree : (u : ℕ) → tightest g s sp u ≡ tightest g s tp u
   unfolding tightest members
-  tightest-agree sp tp u e =
+  tightest-agree u =
       least-agree sp tp 0 (keep (λ w. not (adjacent g u w)) (keep (has s) (range (length g)))) (λ w m.
       let i = keep-mem (has s) (range (length g)) w (keep-mem (λ (x : ℕ). not (adjacent g u x)) (keep (has s) (range (length g))) w m .0) in
-      e w (range-mem (length g) w (i .0)) (has-in s w (i .1)))
+      a .each w (range-mem (length g) w (i .0)) (has-in s w (i .1)))
 
-  after-agree : (sp tp : List ℕ) (u : ℕ) → length g ≤ length sp → length g ≤ length tp → Agree sp tp → Agree (after g s low sp u) (after g s low tp u)
-  unfolding after
-  after-agree sp tp u a b e w l m =
-      subst (λ (x : ℕ). getD (set sp (tightest g s sp u) (getD sp (tightest g s sp u) 0 - 1)) w 0 ≡ getD (set tp x (getD tp x 0 - 1)) w 0)
-      (tightest-agree sp tp u e)
-      (less-agree sp tp (tightest g s sp u) w (omega arith) (omega arith) (e w l m))
-
-  -- what is kept depends on the supports of the members alone
-  pub kept-agree : (us sp tp : List ℕ) (b : ℕ) → length g ≤ length sp → length g ≤ length tp → Agree sp tp → kept g s sp b us ≡ kept g s tp b us
-  unfolding kept
-  kept-agree [] sp tp b l r e = refl
-  kept-agree (u ∷ us) sp tp b l r e =
-      go (kept-agree us) (decLt b (missing g s u)) (ℕ-discrete (missing g s u) 0) (decLt 0 (getD sp (tightest g s sp u) 0))
-    where
-      same : 0 < missing g s u → getD tp (tightest g s tp u) 0 ≡ getD sp (tightest g s sp u) 0
-      same p =
-          let y = tightest-apart g s low sp u p in
-          ap (λ (x : ℕ). getD tp x 0) (sym (tightest-agree sp tp u e)) ∙ sym (e (tightest g s sp u) (y .below) (y .member))
-
-      go : ((sp tp : List ℕ) (b : ℕ) → length g ≤ length sp → length g ≤ length tp → Agree sp tp → kept g s sp b us ≡ kept g s tp b us)
-          → Dec (b < missing g s u) → Dec (missing g s u ≡ 0) → Dec (0 < getD sp (tightest g s sp u) 0) → kept g s sp b (u ∷ us) ≡ kept g s tp b (u ∷ us)
-      go ih (yes d) z q = kept-costly g s low sp b u us d ∙ ih sp tp b l r e ∙ sym (kept-costly g s low tp b u us d)
-      go ih (no nd) (yes z) q = kept-free g s low sp b u us z ∙ ap suc (ih sp tp b l r e) ∙ sym (kept-free g s low tp b u us z)
-      go ih (no nd) (no nz) (yes q) =
-          kept-charged g s low sp b u us (omega arith) (omega arith) q
-          ∙ ap suc
-          (ih (after g s low sp u) (after g s low tp u) (b - missing g s u) (omega (arith, after-length g s low sp u)) (omega (arith, after-length g s low tp u)) (after-agree sp tp u l r e))
-          ∙ sym (kept-charged g s low tp b u us (omega arith) (omega arith) (omega (arith, same (omega arith))))
-      go ih (no nd) (no nz) (no nq) =
-          kept-unsupported g s low sp b u us (omega arith) (omega arith) (omega arith)
-          ∙ ih sp tp b l r e
-          ∙ sym (kept-unsupported g s low tp b u us (omega arith) (omega arith) (omega (arith, same (omega arith))))
+  -- one less at w in both
+  pub spent-agree : (w : ℕ) → Agree g s (spent sp w) (spent tp w)
+  spent-agree w =
+      record {
+        each = λ v l m. omega (arith, spent-at sp w v (omega (arith, a .long)), spent-at tp w v (omega (arith, a .wide)), a .each v l m);
+        long = omega (arith, spent-length sp w, a .long);
+        wide = omega (arith, spent-length tp w, a .wide);
+      }

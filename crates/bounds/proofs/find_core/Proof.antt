@@ -1,6 +1,8 @@
--- `bounds::find_core` meets its contract: the checks decide first, and then the core is found.
+-- The checks decide first: a refusal is the call's, and once all have passed the core of q - k is the answer, as k is at most q.
 use borrow.Author.Needs.{needs}
-use Rattle.bounds.specs.CallLaws.{core-refused, core-sized, core-floor, core-found}
+use Rattle.judging.specs.CallLaws.{check-failed}
+use Rattle.bounds.specs.Calls.{coreReply}
+use Rattle.bounds.specs.CallLaws.{answer-found, core-sized, core-floor}
 use Rattle.bounds.proofs.find_core.Statement.{statement}
 use Rattle.bounds.proofs.find_core.Tie as tie
 
@@ -11,19 +13,23 @@ enum-known-checked : tie.Need-enum-known-checked
 enum-known-checked c = search needs
 
 returns : tie.Need-returns
-returns c = core-refused _ _ _ _ (c .before .before .before .check-request .ensures) _ (c .before .checked .given .1)
+unfolding coreReply
+returns c = check-failed _ _ (c .before .before .before .check-request .ensures) _ _ (c .before .checked .given .1)
 
 enum-told : tie.Need-enum-told
 enum-told c = search needs
 
 sub-core : tie.Need-sub-core
-sub-core c = core-floor _ _ _ _ (c .before .before .before .check-request .ensures) (c .before .enum-told .given .1)
+sub-core c = core-floor _ _ _ (c .before .before .before .check-request .ensures) (c .before .enum-told .given .1)
 
 core-requires : tie.Need-core-requires
-core-requires c κs = core-sized _ _ _ _ (c .before .before .before .check-request .ensures) (c .before .enum-told .given .1)
+core-requires c κs = core-sized _ _ _ (c .before .before .before .check-request .ensures) (c .before .enum-told .given .1)
 
 returns-2 : tie.Need-returns-2
-returns-2 c = core-found _ _ _ _ (c .before .before .before .before .check-request .ensures) (c .before .before .enum-told .given .1) _ (c .core .ensures)
+unfolding coreReply
+returns-2 c =
+    let told = c .before .before in
+    answer-found _ (told .before .before .check-request .ensures) (told .enum-told .given .1) (c .core .ensures)
 
 pub find-core-spec : {M : Type 1} → statement M
 find-core-spec =

@@ -1,7 +1,7 @@
--- `bounds::find_reach` meets its contract: the checks decide first, the vertex next, and then the reach is found.
+-- The checks of the table decide first and the vertex next: a refusal is the call's, and else the reach of v is the answer.
 use native.Mathlib.Omega.{arith}
 use borrow.Author.Needs.{needs}
-use Rattle.bounds.specs.CallLaws.{reach-refused, reach-ready, reach-outside, reach-found}
+use Rattle.bounds.specs.CallLaws.{reach-refused, reach-ready, reach-outside-refused, reach-found}
 use Rattle.bounds.proofs.find_reach.Statement.{statement}
 use Rattle.bounds.proofs.find_reach.Tie as tie
 
@@ -12,7 +12,7 @@ enum-known-checked : tie.Need-enum-known-checked
 enum-known-checked c = search needs
 
 returns : tie.Need-returns
-returns c = reach-refused _ _ _ (c .before .before .before .check-graph .ensures) _ (c .before .checked .given .1)
+returns c = reach-refused _ _ (c .before .before .before .check-graph .ensures) (c .before .checked .given .1)
 
 enum-told : tie.Need-enum-told
 enum-told c = search needs
@@ -21,13 +21,19 @@ count-requires : tie.Need-count-requires
 count-requires c κs = search needs
 
 returns-2 : tie.Need-returns-2
-returns-2 c = reach-outside _ _ _ (c .before .before .before .before .check-graph .ensures) (c .before .before .enum-told .given .1) (omega arith)
+returns-2 c =
+    let told = c .before .before in
+    reach-outside-refused _ _ (told .before .before .check-graph .ensures) (told .enum-told .given .1) (omega arith)
 
 reach-requires : tie.Need-reach-requires
-reach-requires c κs = reach-ready _ _ _ (c .before .before .before .before .check-graph .ensures) (c .before .before .enum-told .given .1) (omega arith)
+reach-requires c κs =
+    let told = c .before .before in
+    reach-ready _ _ (told .before .before .check-graph .ensures) (told .enum-told .given .1) (omega arith)
 
 returns-3 : tie.Need-returns-3
-returns-3 c = reach-found _ _ _ (c .before .before .before .before .before .check-graph .ensures) (c .before .before .before .enum-told .given .1) (omega arith) _ (c .reach .ensures)
+returns-3 c =
+    let told = c .before .before .before in
+    reach-found _ _ (told .before .before .check-graph .ensures) (told .enum-told .given .1) (omega arith) (c .reach .ensures)
 
 pub find-reach-spec : {M : Type 1} → statement M
 find-reach-spec =

@@ -1,10 +1,9 @@
--- `bounds::second_bound` meets its contract: the checks decide first, and then the bound.
-use mathlib.Core.Path.{sym, ap, _∙_}
-use Rattle.judging.specs.Refusal.{answered}
-use Rattle.judging.specs.CallLaws.{check-failed, check-passed, none-holds}
-use Rattle.bounds.specs.BoundCalls.{secondBoundReply}
-use Rattle.bounds.specs.BoundCallLaws.{bound-checked}
+-- The checks decide first: a refusal is the call's, and once all have passed the second bound is the answer.
 use borrow.Author.Needs.{needs}
+use Rattle.judging.specs.CallLaws.{check-failed, none-holds}
+use Rattle.bounds.specs.BoundCalls.{secondBoundReply}
+use Rattle.bounds.specs.CallLaws.{answer-found}
+use Rattle.bounds.specs.BoundCallLaws.{bound-checked}
 use Rattle.bounds.proofs.second_bound.Statement.{statement}
 use Rattle.bounds.proofs.second_bound.Tie as tie
 
@@ -16,17 +15,17 @@ enum-known-checked c = search needs
 
 returns : tie.Need-returns
 unfolding secondBoundReply
-returns c = check-failed _ (c .before .before .before .check-bound .result) (c .before .before .before .check-bound .ensures) (c .before .checked .given .0 .0) _ (c .before .checked .given .1)
+returns c = check-failed _ _ (c .before .before .before .check-bound .ensures) _ _ (c .before .checked .given .1)
 
 enum-told : tie.Need-enum-told
 enum-told c = search needs
 
 second-bound-requires : tie.Need-second-bound-requires
-second-bound-requires c κs = bound-checked _ _ _ _ _ (none-holds _ (c .before .before .check-bound .result) (c .before .before .check-bound .ensures) (c .enum-told .given .1))
+second-bound-requires c κs = bound-checked _ _ _ _ _ (none-holds _ _ (c .before .before .check-bound .ensures) (c .enum-told .given .1))
 
 returns-2 : tie.Need-returns-2
 unfolding secondBoundReply
-returns-2 c = ap (answered 0) (c .second-bound .ensures) ∙ sym (check-passed _ (c .before .before .before .check-bound .result) (c .before .before .before .check-bound .ensures) _ (c .before .enum-told .given .1))
+returns-2 c = answer-found _ (c .before .before .before .check-bound .ensures) (c .before .enum-told .given .1) (c .second-bound .ensures)
 
 pub second-bound-spec : {M : Type 1} → statement M
 second-bound-spec =

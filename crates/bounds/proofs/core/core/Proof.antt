@@ -1,10 +1,10 @@
--- `bounds::core::core` meets its contract. The invariant: s holds every dense set. A pass keeps that, makes s smaller, or shows that s is dense itself.
+-- The core is what passes leave: s holds every dense set all the way (`HoldsDense`), and a pass makes s smaller or shows that it is dense itself.
 use borrow.Author.Needs.{needs}
 use mathlib.Core.Path.{sym, ap, _∙_}
 use borrow.Author.Tests.{eqb-true, eqb-false}
 use Rattle.sets.specs.Set.{full}
 use Rattle.sets.specs.Words.{mask, masks}
-use Rattle.bounds.specs.CoreLaws.{HoldsDense, full-dense, peeled-dense, peeled-less, peeled-core}
+use Rattle.bounds.specs.CoreLaws.{HoldsDense, holds-dense-none, holds-dense-next, holds-dense-all, peeled-falls}
 use Rattle.bounds.proofs.core.core.Statement.{statement}
 use Rattle.bounds.proofs.core.core.Tie as tie
 
@@ -21,7 +21,7 @@ full-requires : tie.Need-full-requires Inv-loop μ-loop
 full-requires c κs = search needs
 
 loop-holds : tie.Need-loop-holds Inv-loop μ-loop
-loop-holds c = full-dense _ _ _ (c .full .ensures ∙ ap full (c .before .count .ensures))
+loop-holds c = holds-dense-none (c .full .ensures ∙ ap full (c .before .count .ensures))
 
 pass-requires : tie.Need-pass-requires Inv-loop μ-loop
 pass-requires c κs = search needs
@@ -30,13 +30,15 @@ same-requires : tie.Need-same-requires Inv-loop μ-loop
 same-requires c κs = search needs
 
 returns : tie.Need-returns Inv-loop μ-loop
-returns c = peeled-core _ _ _ _ (c .before .before .before .loop .inv) (c .before .before .pass .ensures) (eqb-true _ _ (sym (c .before .same .ensures) ∙ c .if1 .taken))
+returns c =
+    let passed = c .before .before in
+    holds-dense-all (passed .pass .ensures) (passed .before .loop .inv) (eqb-true _ _ (sym (c .before .same .ensures) ∙ c .if1 .taken))
 
 loop-less : tie.Need-loop-less Inv-loop μ-loop
-loop-less c = peeled-less _ _ _ _ (c .before .before .pass .ensures) (eqb-false _ _ (sym (c .before .same .ensures) ∙ c .if1 .left))
+loop-less c = peeled-falls (c .before .before .pass .ensures) (eqb-false _ _ (sym (c .before .same .ensures) ∙ c .if1 .left))
 
 loop-again : tie.Need-loop-again Inv-loop μ-loop
-loop-again c = peeled-dense _ _ _ _ (c .before .before .before .loop .inv) (c .before .before .pass .ensures)
+loop-again c = holds-dense-next (c .before .before .pass .ensures) (c .before .before .before .loop .inv)
 
 pub core-spec : {M : Type 1} → statement M
 core-spec =

@@ -1,4 +1,4 @@
--- `bounds::core::degree` meets its contract: the members that s shares with the row of v are those that v is adjacent to.
+-- The members that s shares with the row of v are those that v is adjacent to.
 use mathlib.Core.Path.{ap, _∙_}
 use lib.Bits.{bitAnd}
 use Rattle.sets.specs.Set.{size}

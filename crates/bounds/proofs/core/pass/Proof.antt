@@ -1,9 +1,9 @@
--- `bounds::core::pass` meets its contract. The invariant, `Peeling`, says what holds midway through the members of s; each turn leaves v in or takes it out.
+-- A pass takes out of s only what no dense set inside s has, and takes nothing only where s is dense (`Peeling`): each turn leaves v in or takes it out.
 use borrow.Author.Needs.{needs}
 use mathlib.Core.Logic.{⊎-elim}
 use Rattle.sets.specs.Words.{mask, masks}
-use Rattle.sets.specs.WalkLaws.{walk-falls, walk-goes-on, walk-over}
-use Rattle.bounds.specs.CoreLaws.{Peeling, peeling-none, peeling-next, peeling-stays, peeling-goes, peeling-all}
+use Rattle.sets.specs.WalkLaws.{walk-falls, walk-below, walk-goes-on, walk-over}
+use Rattle.bounds.specs.CoreLaws.{Peeling, peeling-none, peeling-same, peeling-more, peeling-all}
 use Rattle.bounds.proofs.core.pass.Statement.{statement}
 use Rattle.bounds.proofs.core.pass.Tie as tie
 
@@ -14,7 +14,7 @@ abbrev μ-loop : tie.MeasureT-loop
 μ-loop rows m kept₀ left₀ kept left = mask left
 
 loop-holds : tie.Need-loop-holds Inv-loop μ-loop
-loop-holds c = peeling-none _ _ _
+loop-holds c = peeling-none
 
 is-empty-requires : tie.Need-is-empty-requires Inv-loop μ-loop
 is-empty-requires c κs = search needs
@@ -24,7 +24,8 @@ lowest-requires c κs = walk-goes-on _ _ (c .before .is-empty .ensures) (c .if1 
 
 degree-requires : tie.Need-degree-requires Inv-loop μ-loop
 degree-requires c κs =
-    peeling-next _ _ _ _ _ _ (c .before .before .before .before .before .pre .below) (c .before .before .before .loop .inv) (c .lowest .ensures .member)
+    let turn = c .before .before .before in
+    walk-below _ _ _ _ (turn .before .before .pre .below) (turn .loop .inv .walked .part) (c .lowest .ensures)
 
 without-requires : tie.Need-without-requires Inv-loop μ-loop
 without-requires c κs = search needs
@@ -37,19 +38,18 @@ loop-less c = walk-falls _ _ _ (c .before .before .before .lowest .ensures) (c .
 
 loop-again : tie.Need-loop-again Inv-loop μ-loop
 loop-again c =
+    let tested = c .before .before in
+    let found = tested .before in
+    let inv = found .before .before .before .loop .inv in
+    let vertex = degree-requires found (tested .degree .lifetimes) in
     rw (c .rest .ensures)
     (⊎-elim
-    (λ w.
-    rw (w .2, w .1 .ensures)
-    (peeling-goes _ _ _ _ _ _ _ (degree-requires (c .before .before .before) (c .before .before .degree .lifetimes)) (c .before .before .before .lowest .ensures .member)
-    (c .before .before .before .before .before .before .loop .inv) (c .before .before .degree .ensures .0) (w .0 .taken)))
-    (λ w.
-    rw (w .1)
-    (peeling-stays _ _ _ _ _ _ _ (c .before .before .before .before .before .before .loop .inv) (c .before .before .degree .ensures .0) (w .0 .left)))
+    (λ w. rw (w .2, w .1 .ensures) (peeling-more inv (found .lowest .ensures) (tested .degree .ensures .0) vertex (w .0 .taken)))
+    (λ w. rw (w .1) (peeling-same inv (found .lowest .ensures) (tested .degree .ensures .0) (w .0 .left)))
     (c .before .if2 .came))
 
 returns : tie.Need-returns Inv-loop μ-loop
-returns c = peeling-all _ _ _ _ _ (walk-over _ _ (c .before .is-empty .ensures) (c .if1 .left)) (c .before .before .loop .inv)
+returns c = peeling-all (c .before .before .loop .inv) (walk-over _ _ (c .before .is-empty .ensures) (c .if1 .left))
 
 pub pass-spec : {M : Type 1} → statement M
 pass-spec =

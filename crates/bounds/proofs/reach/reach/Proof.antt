@@ -1,12 +1,9 @@
--- `bounds::reach::reach` meets its contract. The invariant, `Reaching`, says what is found midway through the neighbours of v: all rows joined so far, and no more than the reach.
-use Prim.Native.Nat.{_<_}
+-- What is found midway through the neighbours of v is their rows joined so far, and nothing outside the reach (`Reaching`); at the end it is the reach.
 use native.Mathlib.Omega.{arith}
 use borrow.Author.Needs.{needs}
-use denote.Ref.{now}
-use lib.ListN.{length}
 use Rattle.sets.specs.Words.{mask, masks}
-use Rattle.sets.specs.WalkLaws.{walk-falls, walk-goes-on, walk-over}
-use Rattle.bounds.specs.ReachLaws.{Reaching, reaching-none, reaching-next, reaching-more, reaching-all}
+use Rattle.sets.specs.WalkLaws.{walk-falls, walk-below, walk-goes-on, walk-over}
+use Rattle.bounds.specs.ReachLaws.{Reaching, reaching-none, reaching-next, reaching-all}
 use Rattle.bounds.proofs.reach.reach.Statement.{statement}
 use Rattle.bounds.proofs.reach.reach.Tie as tie
 
@@ -23,7 +20,7 @@ with-requires : tie.Need-with-requires Inv-loop μ-loop
 with-requires c κs = search needs
 
 loop-holds : tie.Need-loop-holds Inv-loop μ-loop
-loop-holds c = rw (c .with .ensures, c .before .get .ensures) (reaching-none _ _ (omega arith) (c .before .before .before .pre .0 .low))
+loop-holds c = rw (c .with .ensures, c .before .get .ensures) (reaching-none (c .before .before .before .pre .0) (omega arith))
 
 is-empty-requires : tie.Need-is-empty-requires Inv-loop μ-loop
 is-empty-requires c κs = search needs
@@ -31,13 +28,11 @@ is-empty-requires c κs = search needs
 lowest-requires : tie.Need-lowest-requires Inv-loop μ-loop
 lowest-requires c κs = walk-goes-on _ _ (c .before .is-empty .ensures) (c .if1 .taken)
 
--- the neighbour that is looked at is a vertex
-next : (c : tie.After-lowest Inv-loop μ-loop) → c .lowest .result < length (masks (now (c .before .before .before .before .before .before .before .args .rows)))
-next c =
-    reaching-next _ _ _ _ _ (c .before .before .before .before .before .before .before .pre .0 .low _ (omega arith)) (c .before .before .before .loop .inv) (c .lowest .ensures .member)
-
 get-requires-2 : tie.Need-get-requires-2 Inv-loop μ-loop
-get-requires-2 c κs = omega (arith, next c)
+get-requires-2 c κs =
+    let turn = c .before .before .before in
+    let start = turn .before .before .before .before in
+    walk-below _ _ _ _ (start .pre .0 .low _ (start .pre .1)) (turn .loop .inv .two .part) (c .lowest .ensures)
 
 join-requires : tie.Need-join-requires Inv-loop μ-loop
 join-requires c κs = search needs
@@ -50,13 +45,15 @@ loop-less c = walk-falls _ _ _ (c .before .before .before .lowest .ensures) (c .
 
 loop-again : tie.Need-loop-again Inv-loop μ-loop
 loop-again c =
-    let low = c .before .before .before .before .before .before .before .before .before .before .pre .0 .low in
-    let w = next (c .before .before .before) in
-    rw (c .rest .ensures, c .before .join .ensures, c .before .before .get2 .ensures)
-    (reaching-more _ _ _ _ _ w (low _ w) (c .before .before .before .lowest .ensures .member) (c .before .before .before .before .before .before .loop .inv))
+    let joined = c .before .before in
+    let found = joined .before in
+    let turn = found .before .before .before in
+    let low = turn .before .before .before .before .pre .0 in
+    rw (c .rest .ensures, c .before .join .ensures, joined .get2 .ensures)
+    (reaching-next low (get-requires-2 found (joined .get2 .lifetimes)) (turn .loop .inv) (found .lowest .ensures))
 
 returns : tie.Need-returns Inv-loop μ-loop
-returns c = reaching-all _ _ _ _ (walk-over _ _ (c .before .is-empty .ensures) (c .if1 .left)) (c .before .before .loop .inv)
+returns c = reaching-all (c .before .before .loop .inv) (walk-over _ _ (c .before .is-empty .ensures) (c .if1 .left))
 
 pub reach-spec : {M : Type 1} → statement M
 reach-spec =
