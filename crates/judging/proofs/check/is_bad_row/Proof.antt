@@ -1,4 +1,4 @@
--- `judging::check::is_bad_row` meets its contract: the two halves of the test, one after the other.
+-- A row is bad by its own bit, or, where it lacks that, by a bit of n or above: the two halves of the test, in this order.
 use mathlib.Core.Path.{sym, _∙_}
 use Rattle.judging.specs.JudgeLaws.{own-bit, reaches}
 use borrow.Author.Needs.{needs}

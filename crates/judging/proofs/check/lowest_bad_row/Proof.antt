@@ -1,4 +1,4 @@
--- `judging::check::lowest_bad_row` meets its contract: no row passed is bad, and the first bad one ends the loop.
+-- No row passed is bad, and the first bad one ends the loop: so it is the lowest, or n where the loop comes to its end.
 use Prim.Native.Nat.{ℕ, _-_, _≤_, _<_}
 use native.Mathlib.Omega.{arith}
 use mathlib.Core.Path.{_≡_, sym, _∙_}

@@ -1,4 +1,4 @@
--- `judging::check::lowest_one_way` meets its contract: no row passed has a one-way link, and in the present row each vertex passed is answered.
+-- No row passed has a one-way link, and in the present row each vertex passed has it as a neighbour. A vertex that lacks it ends both loops.
 use Prim.Native.Nat.{ℕ, _-_, _≤_, _<_}
 use native.Mathlib.Omega.{arith}
 use mathlib.Core.Path.{_≡_, sym, subst, _∙_}
