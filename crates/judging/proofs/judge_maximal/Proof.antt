@@ -7,18 +7,9 @@ use Rattle.judging.specs.CallLaws.{check-failed, check-answers, none-hol
 use Rattle.judging.proofs.judge_maximal.Statement.{statement}
 use Rattle.judging.proofs.judge_maximal.Tie as tie
 
-check-set-requires : tie.Need-check-set-requires
-check-set-requires c κs = tt
-
-enum-known-checked : tie.Need-enum-known-checked
-enum-known-checked c = search needs
-
 returns : tie.Need-returns
 unfolding maximalReply
 returns c = check-failed _ _ (c .before .before .before .check-set .ensures) _ _ (c .before .checked .given .1)
-
-enum-told : tie.Need-enum-told
-enum-told c = search needs
 
 is-maximal-requires : tie.Need-is-maximal-requires
 is-maximal-requires c κs = set-checked _ _ _ (none-holds _ _ (c .before .before .check-set .ensures) (c .enum-told .given .1))
@@ -36,13 +27,4 @@ returns-3 c =
     check-answers _ (passed .before .before .check-set .ensures) (passed .enum-told .given .1) (sym (c .if1 .left) ∙ c .before .is-maximal .ensures)
 
 pub judge-maximal-spec : {M : Type 1} → statement M
-judge-maximal-spec =
-    tie.close
-    (tie.spec
-    check-set-requires
-    enum-known-checked
-    returns
-    enum-told
-    is-maximal-requires
-    returns-2
-    returns-3)
+judge-maximal-spec = tie.close (tie.spec (λ c. search needs) (λ c. search needs) returns (λ c. search needs) is-maximal-requires returns-2 returns-3)

@@ -7,18 +7,9 @@ use Rattle.judging.specs.CallLaws.{check-failed, check-answers, none-hol
 use Rattle.judging.proofs.judge_plex.Statement.{statement}
 use Rattle.judging.proofs.judge_plex.Tie as tie
 
-check-set-requires : tie.Need-check-set-requires
-check-set-requires c κs = tt
-
-enum-known-checked : tie.Need-enum-known-checked
-enum-known-checked c = search needs
-
 returns : tie.Need-returns
 unfolding plexReply
 returns c = check-failed _ _ (c .before .before .before .check-set .ensures) _ _ (c .before .checked .given .1)
-
-enum-told : tie.Need-enum-told
-enum-told c = search needs
 
 is-plex-requires : tie.Need-is-plex-requires
 is-plex-requires c κs = set-checked _ _ _ (none-holds _ _ (c .before .before .check-set .ensures) (c .enum-told .given .1)) .inside
@@ -36,13 +27,4 @@ returns-3 c =
     check-answers _ (passed .before .before .check-set .ensures) (passed .enum-told .given .1) (sym (c .if1 .left) ∙ c .before .is-plex .ensures)
 
 pub judge-plex-spec : {M : Type 1} → statement M
-judge-plex-spec =
-    tie.close
-    (tie.spec
-    check-set-requires
-    enum-known-checked
-    returns
-    enum-told
-    is-plex-requires
-    returns-2
-    returns-3)
+judge-plex-spec = tie.close (tie.spec (λ c. search needs) (λ c. search needs) returns (λ c. search needs) is-plex-requires returns-2 returns-3)

@@ -5,12 +5,6 @@ use borrow.Author.Needs.{needs}
 use Rattle.judging.proofs.check.check_edges.Statement.{statement}
 use Rattle.judging.proofs.check.check_edges.Tie as tie
 
-count-requires : tie.Need-count-requires
-count-requires c κs = search needs
-
-lowest-bad-row-requires : tie.Need-lowest-bad-row-requires
-lowest-bad-row-requires c κs = search needs
-
 returns : tie.Need-returns
 returns c = row-refused _ (c .before .lowest-bad-row .ensures) (omega arith)
 
@@ -24,12 +18,4 @@ returns-3 : tie.Need-returns-3
 returns-3 c = edges-accepted _ (c .before .before .before .lowest-bad-row .ensures) (c .before .lowest-one-way .ensures) (omega arith) (omega arith)
 
 pub check-edges-spec : {M : Type 1} → statement M
-check-edges-spec =
-    tie.close
-    (tie.spec
-    count-requires
-    lowest-bad-row-requires
-    returns
-    lowest-one-way-requires
-    returns-2
-    returns-3)
+check-edges-spec = tie.close (tie.spec (λ c. search needs) (λ c. search needs) returns lowest-one-way-requires returns-2 returns-3)

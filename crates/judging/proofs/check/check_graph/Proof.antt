@@ -7,9 +7,6 @@ use borrow.Author.Needs.{needs}
 use Rattle.judging.proofs.check.check_graph.Statement.{statement}
 use Rattle.judging.proofs.check.check_graph.Tie as tie
 
-rows-accepted-requires : tie.Need-rows-accepted-requires
-rows-accepted-requires c κs = search needs
-
 returns : tie.Need-returns
 unfolding graphCheck vertexCause
 returns c = test-refused _ _ (c .before .rows-accepted .ensures) (c .if1 .taken)
@@ -22,4 +19,4 @@ unfolding graphCheck vertexCause
 returns-2 c = test-accepted _ _ (c .before .before .rows-accepted .ensures) (c .before .if1 .left) (c .check-edges .ensures)
 
 pub check-graph-spec : {M : Type 1} → statement M
-check-graph-spec = tie.close (tie.spec rows-accepted-requires returns check-edges-requires returns-2)
+check-graph-spec = tie.close (tie.spec (λ c. search needs) returns check-edges-requires returns-2)

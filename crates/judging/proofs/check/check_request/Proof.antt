@@ -7,15 +7,9 @@ use borrow.Author.Needs.{needs}
 use Rattle.judging.proofs.check.check_request.Statement.{statement}
 use Rattle.judging.proofs.check.check_request.Tie as tie
 
-rows-accepted-requires : tie.Need-rows-accepted-requires
-rows-accepted-requires c κs = search needs
-
 returns : tie.Need-returns
 unfolding requestCheck vertexCause slackCause floorCause
 returns c = test-refused _ _ (c .before .rows-accepted .ensures) (c .if1 .taken)
-
-slack-accepted-requires : tie.Need-slack-accepted-requires
-slack-accepted-requires c κs = search needs
 
 returns-2 : tie.Need-returns-2
 unfolding requestCheck vertexCause slackCause floorCause
@@ -55,11 +49,4 @@ pub check-request-spec : {M : Type 1} → statement M
 check-request-spec =
     tie.close
     (tie.spec
-    rows-accepted-requires
-    returns
-    slack-accepted-requires
-    returns-2
-    floor-accepted-requires
-    returns-3
-    check-edges-requires
-    returns-4)
+    (λ c. search needs) returns (λ c. search needs) returns-2 floor-accepted-requires returns-3 check-edges-requires returns-4)

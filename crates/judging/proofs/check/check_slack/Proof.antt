@@ -7,15 +7,9 @@ use borrow.Author.Needs.{needs}
 use Rattle.judging.proofs.check.check_slack.Statement.{statement}
 use Rattle.judging.proofs.check.check_slack.Tie as tie
 
-rows-accepted-requires : tie.Need-rows-accepted-requires
-rows-accepted-requires c κs = search needs
-
 returns : tie.Need-returns
 unfolding slackCheck vertexCause slackCause
 returns c = test-refused _ _ (c .before .rows-accepted .ensures) (c .if1 .taken)
-
-slack-accepted-requires : tie.Need-slack-accepted-requires
-slack-accepted-requires c κs = search needs
 
 returns-2 : tie.Need-returns-2
 unfolding slackCheck vertexCause slackCause
@@ -36,12 +30,4 @@ returns-3 c =
     (test-accepted _ _ (slack .before .slack-accepted .ensures) (slack .if2 .left) (c .check-edges .ensures))
 
 pub check-slack-spec : {M : Type 1} → statement M
-check-slack-spec =
-    tie.close
-    (tie.spec
-    rows-accepted-requires
-    returns
-    slack-accepted-requires
-    returns-2
-    check-edges-requires
-    returns-3)
+check-slack-spec = tie.close (tie.spec (λ c. search needs) returns (λ c. search needs) returns-2 check-edges-requires returns-3)
