@@ -7,10 +7,10 @@ use mathlib.Core.List.{List, [], _∷_}
 use lib.Dec.{ltb}
 use lib.ListN.{length}
 use borrow.Author.Tests.{lt-ltb, le-ltb, ltb-true, ltb-false, le-leb, lt-leb, not-true, not-false}
-use Rattle.judging.specs.Refusal.{Reply, refused, Cause, firstOf, badRow, oneWay, lowestRow, rowCause, edgeCause, graphCauses, setCause}
+use Rattle.judging.specs.Refusal.{Reply, refused, answered, Cause, firstOf, badRow, oneWay, lowestRow, rowCause, edgeCause, graphCauses, setCause}
 use Rattle.judging.specs.Calls.{refusal, numberOf, valueOf, passed, checkedReply}
 use Rattle.judging.specs.Setting.{Sized, LowRows}
-use Rattle.judging.specs.RefusalLaws.{first-holds, first-skips, first-refused, first-passed, low-rows}
+use Rattle.judging.specs.RefusalLaws.{first-holds, first-skips, first-refused, first-passed, rows-below}
 use Rattle.judging.specs.declared.Refusal.{Refusal}
 use Rattle.judging.specs.declared.Refusal.the-variants.{Vertices, Slack, Floor, Row, OneWay, Slots, Outside, Line, Room, Bound}
 use Rattle.judging.specs.declared.Checked.{Checked}
@@ -42,7 +42,12 @@ module _ {A : Type 0} (xs : List Cause) (r : Checked) (h : checkedReply r ≡ fi
 pub none-holds : (xs : List Cause) (r : Checked) → checkedReply r ≡ firstOf xs passed → r ≡ Passed → firstOf xs passed ≡ passed
 none-holds xs r h e = sym h ∙ ap checkedReply e
 
--- ---- an accepted range, as the code tests it
+-- a call that tests what passed its checks answers what the test says
+pub check-answers : (xs : List Cause) {r : Checked} {b t : Bool} → checkedReply r ≡ firstOf xs passed → r ≡ Passed → b ≡ t
+    → answered 0 b ≡ firstOf xs (answered 0 t)
+check-answers xs h e f = ap (answered 0) f ∙ sym (check-passed xs _ h _ e)
+
+-- ---- one cause, as the code tests it: b says that the input is accepted
 
 pub not-accepted : (b o : Bool) → b ≡ not o → not b ≡ true → o ≡ true
 not-accepted b true h e = refl
@@ -52,35 +57,45 @@ pub accepted : (b o : Bool) → b ≡ not o → not b ≡ false → o ≡ false
 accepted b true h e = sym (ap not h) ∙ e
 accepted b false h e = refl
 
--- ---- the table
+module _ (c : Cause) (cs : List Cause) {b : Bool} (h : b ≡ not (c .holds)) where
+  pub test-refused : not b ≡ true → refused (c .number) (c .value) ≡ firstOf (c ∷ cs) passed
+  test-refused e = sym (first-holds c cs passed (not-accepted b (c .holds) h e))
 
-module _ (g : List ℕ) (a : ℕ) (e : a ≡ lowestRow (badRow g) (length g)) where
-  pub bad-row : a < length g → rowCause g .holds ≡ true
-  unfolding rowCause
-  bad-row l = lt-ltb (lowestRow (badRow g) (length g)) (length g) (omega arith)
+  pub test-accepted : {r : Reply (Unit {0})} → not b ≡ false → r ≡ firstOf cs passed → r ≡ firstOf (c ∷ cs) passed
+  test-accepted e k = k ∙ sym (first-skips c cs passed (accepted b (c .holds) h e))
 
-  pub no-bad : length g ≤ a → rowCause g .holds ≡ false
-  unfolding rowCause
-  no-bad l = le-ltb (lowestRow (badRow g) (length g)) (length g) (omega arith)
+-- ---- the table: a is the lowest bad row, and b the lowest row with a one-way link
 
+lowest-holds : (p : ℕ → Bool) (n : ℕ) {a : ℕ} → a ≡ lowestRow p n → a < n → ltb (lowestRow p n) n ≡ true
+lowest-holds p n e l = lt-ltb (lowestRow p n) n (omega arith)
+
+lowest-none : (p : ℕ → Bool) (n : ℕ) {a : ℕ} → a ≡ lowestRow p n → n ≤ a → ltb (lowestRow p n) n ≡ false
+lowest-none p n e l = le-ltb (lowestRow p n) n (omega arith)
+
+module _ (g : List ℕ) {a : ℕ} (e : a ≡ lowestRow (badRow g) (length g)) where
   pub row-refused : a < length g → refused 4 a ≡ firstOf (graphCauses g) passed
   unfolding graphCauses rowCause
-  row-refused l = ap (refused 4) e ∙ sym (first-holds (rowCause g) (edgeCause g ∷ []) passed (bad-row l))
+  row-refused l = ap (refused 4) e ∙ sym (first-holds _ _ passed (lowest-holds (badRow g) (length g) e l))
+
+  row-none : length g ≤ a → rowCause g .holds ≡ false
+  unfolding rowCause
+  row-none l = lowest-none (badRow g) (length g) e l
 
   pub rows-low : Sized g → length g ≤ a → LowRows g
-  rows-low z l = record { some = z .some; most = z .most; low = low-rows g (no-bad l) }
+  rows-low z l = record { some = z .some; most = z .most; low = rows-below g (row-none l) }
 
-  module _ (b : ℕ) (f : b ≡ lowestRow (oneWay g) (length g)) (l : length g ≤ a) where
+  module _ {b : ℕ} (f : b ≡ lowestRow (oneWay g) (length g)) (l : length g ≤ a) where
+    past-rows : firstOf (graphCauses g) passed ≡ firstOf (edgeCause g ∷ []) passed
+    unfolding graphCauses
+    past-rows = first-skips _ _ passed (row-none l)
+
     pub edge-refused : b < length g → refused 5 b ≡ firstOf (graphCauses g) passed
-    unfolding graphCauses edgeCause
-    edge-refused q =
-        ap (refused 5) f
-        ∙ sym (first-skips (rowCause g) (edgeCause g ∷ []) passed (no-bad l) ∙ first-holds (edgeCause g) [] passed (lt-ltb (lowestRow (oneWay g) (length g)) (length g) (omega arith)))
+    unfolding edgeCause
+    edge-refused q = ap (refused 5) f ∙ sym (past-rows ∙ first-holds _ _ passed (lowest-holds (oneWay g) (length g) f q))
 
-    pub edges-pass : length g ≤ b → passed ≡ firstOf (graphCauses g) passed
-    unfolding graphCauses edgeCause firstOf
-    edges-pass q =
-        sym (first-skips (rowCause g) (edgeCause g ∷ []) passed (no-bad l) ∙ first-skips (edgeCause g) [] passed (le-ltb (lowestRow (oneWay g) (length g)) (length g) (omega arith)))
+    pub edges-accepted : length g ≤ b → passed ≡ firstOf (graphCauses g) passed
+    unfolding edgeCause firstOf
+    edges-accepted q = sym (past-rows ∙ first-skips _ [] passed (lowest-none (oneWay g) (length g) f q))
 
 -- ---- a set within the graph
 

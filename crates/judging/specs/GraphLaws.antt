@@ -1,8 +1,7 @@
 -- Laws of degrees and non-neighbours: they add up to the size, grow with the set, and change by one vertex more.
 use Prim.Native.Nat.{ℕ, suc, _+_, _^_, _≤_, _<_}
 use native.Mathlib.Omega.{arith}
-use native.Mathlib.Decide.{ℕ-discrete}
-use mathlib.Core.Path.{_≡_, ap, subst}
+use mathlib.Core.Path.{_≡_, ap}
 use mathlib.Core.Logic.{_≢_}
 use mathlib.Core.List.{List}
 use lib.Dec.{T}
@@ -11,7 +10,8 @@ use lib.ListN.{length}
 use Rattle.sets.specs.Set.{bit, In, Sub, size, with, minus}
 use Rattle.sets.specs.Graph.{row}
 use Rattle.sets.specs.BitLaws.{ext, bit-le, bit-and, bit-minus}
-use Rattle.sets.specs.SubsetLaws.{in-below, with-same, with-other, has-in, in-has}
+use Rattle.sets.specs.PointLaws.{bit-with, single-in, single-out, by-bit}
+use Rattle.sets.specs.SubsetLaws.{in-below, has-in, in-has}
 use Rattle.sets.specs.SizeLaws.{two-members, size-minus, size-with, size-mono}
 use Rattle.judging.specs.Graph.{adjacent, degree, missing, Valid}
 
@@ -31,35 +31,26 @@ unfolding degree
 degree-mono g s t a h =
     size-mono (bitAnd s (row g a)) (bitAnd t (row g a)) (λ v. omega (arith, bit-and s (row g a) v, bit-and t (row g a) v, h v))
 
--- the members of s that a larger set adds
+-- one vertex x more: v misses it, or is adjacent to it
 pub missing-with : (g : List ℕ) (s x v : ℕ) → bit s x ≡ 0 → missing g (with s x) v + bit (row g v) x ≡ suc (missing g s v)
 unfolding missing
-missing-with g s x v e = go (ℕ-discrete (bit (row g v) x) 1)
+missing-with g s x v e = by-bit r x (λ h. omega (arith, ap size (same h))) (λ o. omega (arith, ap size (more o), size-with (minus s r) x free))
   where
-    same : In x (row g v) → minus (with s x) (row g v) ≡ minus s (row g v)
-    same h = ext (minus (with s x) (row g v)) (minus s (row g v)) (λ u. at u (ℕ-discrete x u))
-      where
-        at : (u : ℕ) → Dec (x ≡ u) → bit (minus (with s x) (row g v)) u ≡ bit (minus s (row g v)) u
-        at u (yes p) =
-            subst (λ (y : ℕ). bit (minus (with s x) (row g v)) y ≡ bit (minus s (row g v)) y) p
-            (omega (arith, bit-minus (with s x) (row g v) x, bit-minus s (row g v) x, with-same s x))
-        at u (no np) = omega (arith, bit-minus (with s x) (row g v) u, bit-minus s (row g v) u, with-other s x u np)
+    r : ℕ
+    r = row g v
 
-    more : bit (row g v) x ≡ 0 → minus (with s x) (row g v) ≡ with (minus s (row g v)) x
-    more h = ext (minus (with s x) (row g v)) (with (minus s (row g v)) x) (λ u. at u (ℕ-discrete x u))
-      where
-        at : (u : ℕ) → Dec (x ≡ u) → bit (minus (with s x) (row g v)) u ≡ bit (with (minus s (row g v)) x) u
-        at u (yes p) =
-            subst (λ (y : ℕ). bit (minus (with s x) (row g v)) y ≡ bit (with (minus s (row g v)) x) y) p
-            (omega (arith, bit-minus (with s x) (row g v) x, with-same s x, with-same (minus s (row g v)) x))
-        at u (no np) =
-            omega (arith, bit-minus (with s x) (row g v) u, bit-minus s (row g v) u, with-other s x u np, with-other (minus s (row g v)) x u np)
+    free : bit (minus s r) x ≡ 0
+    free = omega (arith, bit-minus s r x)
 
-    go : Dec (bit (row g v) x ≡ 1) → size (minus (with s x) (row g v)) + bit (row g v) x ≡ suc (size (minus s (row g v)))
-    go (yes h) = omega (arith, ap size (same h))
-    go (no nh) =
-        let z : bit (row g v) x ≡ 0 = omega (arith, bit-le (row g v) x) in
-        omega (arith, ap size (more z), size-with (minus s (row g v)) x (omega (arith, bit-minus s (row g v) x)))
+    same : In x r → minus (with s x) r ≡ minus s r
+    same h =
+        ext (minus (with s x) r) (minus s r) (λ u.
+        omega (arith, bit-minus (with s x) r u, bit-minus s r u, bit-with s x u, single-in r x u h, bit-le s u, bit-le r u))
+
+    more : bit r x ≡ 0 → minus (with s x) r ≡ with (minus s r) x
+    more o =
+        ext (minus (with s x) r) (with (minus s r) x) (λ u.
+        omega (arith, bit-minus (with s x) r u, bit-minus s r u, bit-with s x u, bit-with (minus s r) x u, single-out r x u o, bit-le s u))
 
 -- ---- the test and the statement
 
@@ -78,5 +69,9 @@ miss-both g s u v ok b hu hv ne nl =
     let lu = in-below (length g) s u b hu in
     let lv = in-below (length g) s v b hv in
     two-members (bitAnd (minus s (row g u)) (minus s (row g v))) u v ne
-    (omega (arith, bit-and (minus s (row g u)) (minus s (row g v)) u, bit-minus s (row g u) u, bit-minus s (row g v) u, ok .loopless u lu, ok .mutually u v lu lv))
-    (omega (arith, bit-and (minus s (row g u)) (minus s (row g v)) v, bit-minus s (row g u) v, bit-minus s (row g v) v, ok .loopless v lv))
+    (missed u hu (ok .loopless u lu) (omega (arith, ok .mutually u v lu lv)))
+    (missed v hv nl (ok .loopless v lv))
+  where
+    missed : (w : ℕ) → In w s → bit (row g u) w ≡ 0 → bit (row g v) w ≡ 0 → In w (bitAnd (minus s (row g u)) (minus s (row g v)))
+    missed w i p q =
+        omega (arith, bit-and (minus s (row g u)) (minus s (row g v)) w, bit-minus s (row g u) w, bit-minus s (row g v) w)

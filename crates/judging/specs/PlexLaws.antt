@@ -36,31 +36,43 @@ hereditary g k s t h p v l e = le-trans (missing-mono g s t v h) (p v l (in-of-s
 
 -- ---- maximal plexes
 
+-- t is no larger plex than s
 others : List ℕ → ℕ → ℕ → ℕ → Bool
 others g k s t = not (subset s t && plex g k t) || eqb t s
 
-pub maximal-holds : (g : List ℕ) (k s : ℕ) → T (maximal g k s) → Maximal g k s
-unfolding maximal others
-maximal-holds g k s t =
-    let few : T (all (others g k s) (range (2 ^ length g))) = and-right (plex g k s) (all (others g k s) (range (2 ^ length g))) t in
-    (plex-holds g k s (and-left (plex g k s) (all (others g k s) (range (2 ^ length g))) t), λ u l h p. go u h p (or-cases (not (subset s u && plex g k u)) (eqb u s) (all-elim (others g k s) (range (2 ^ length g)) u few (mem-range (2 ^ length g) u l))))
-  where
-    go : (u : ℕ) → Sub s u → Plex g k u → T (not (subset s u && plex g k u)) ⊎ T (eqb u s) → u ≡ s
-    go u h p (inl q) = absurd (T-not (subset s u && plex g k u) q (both (subset s u) (plex g k u) (sub-subset s u h) (plex-test g k u p)))
-    go u h p (inr q) = eqb→eq u s q
+module _ (g : List ℕ) (k s : ℕ) where
+  others-holds : (t : ℕ) → T (others g k s t) → Sub s t → Plex g k t → t ≡ s
+  unfolding others
+  others-holds t o h p = go (or-cases (not (subset s t && plex g k t)) (eqb t s) o)
+    where
+      go : T (not (subset s t && plex g k t)) ⊎ T (eqb t s) → t ≡ s
+      go (inl q) = absurd (T-not (subset s t && plex g k t) q (both (subset s t) (plex g k t) (sub-subset s t h) (plex-test g k t p)))
+      go (inr q) = eqb→eq t s q
 
-pub maximal-test : (g : List ℕ) (k s : ℕ) → Maximal g k s → T (maximal g k s)
-unfolding maximal others
-maximal-test g k s m =
-    both (plex g k s) (all (others g k s) (range (2 ^ length g))) (plex-test g k s (m .0))
-    (all-intro (others g k s) (range (2 ^ length g)) (λ u l. go u (range-mem (2 ^ length g) u l) (test (subset s u && plex g k u))))
-  where
-    go : (u : ℕ) → u < 2 ^ length g → T (subset s u && plex g k u) ⊎ T (not (subset s u && plex g k u)) → T (others g k s u)
-    go u l (inr q) = or-left (not (subset s u && plex g k u)) (eqb u s) q
-    go u l (inl q) =
-        or-right (not (subset s u && plex g k u)) (eqb u s)
-        (subst (λ (x : ℕ). T (eqb u x))
-        (m .1 u l (subset-sub s u (and-left (subset s u) (plex g k u) q)) (plex-holds g k u (and-right (subset s u) (plex g k u) q))) (eqb-refl u))
+  others-test : (t : ℕ) → (Sub s t → Plex g k t → t ≡ s) → T (others g k s t)
+  unfolding others
+  others-test t f = go (test (subset s t && plex g k t))
+    where
+      go : T (subset s t && plex g k t) ⊎ T (not (subset s t && plex g k t)) → T (others g k s t)
+      go (inr q) = or-left (not (subset s t && plex g k t)) (eqb t s) q
+      go (inl q) =
+          let e = f (subset-sub s t (and-left (subset s t) (plex g k t) q)) (plex-holds g k t (and-right (subset s t) (plex g k t) q)) in
+          or-right (not (subset s t && plex g k t)) (eqb t s) (subst (λ (x : ℕ). T (eqb t x)) e (eqb-refl t))
+
+  pub maximal-holds : T (maximal g k s) → Maximal g k s
+  unfolding maximal others
+  maximal-holds t =
+      let rest = all (others g k s) (range (2 ^ length g)) in
+      let each = and-right (plex g k s) rest t in (
+        plex-holds g k s (and-left (plex g k s) rest t),
+        λ u l. others-holds u (all-elim (others g k s) (range (2 ^ length g)) u each (mem-range (2 ^ length g) u l)),
+      )
+
+  pub maximal-test : Maximal g k s → T (maximal g k s)
+  unfolding maximal others
+  maximal-test m =
+      both (plex g k s) (all (others g k s) (range (2 ^ length g))) (plex-test g k s (m .0))
+      (all-intro (others g k s) (range (2 ^ length g)) (λ u l. others-test u (m .1 u (range-mem (2 ^ length g) u l))))
 
 -- a plex is maximal where no single vertex can be added
 pub maximal-by-one : (g : List ℕ) (k s : ℕ) → Plex g k s

@@ -2,7 +2,6 @@
 use Prim.Native.Nat.{ℕ, _*_, _-_, _^_, _≤_, _<_}
 use native.Mathlib.Omega.{arith}
 use native.Mathlib.Nat.{lt-of-not-le}
-use native.Mathlib.Decide.{ℕ-discrete}
 use mathlib.Core.Path.{_≡_, refl, sym, ap, _∙_}
 use mathlib.Core.Bool.{Bool, true, false, not, _&&_, _||_, cond}
 use mathlib.Core.List.{List, [], _∷_, _++_}
@@ -10,14 +9,16 @@ use lib.Dec.{T, leb, ltb, le→leb, not-T}
 use lib.ListN.{length}
 use borrow.Author.Tests.{ltb-false, leb-false}
 use Rattle.sets.specs.Ranges.{range, first}
-use Rattle.sets.specs.Set.{bit, has}
+use Rattle.sets.specs.Set.{bit, In, has}
 use Rattle.sets.specs.Graph.{row}
-use Rattle.sets.specs.RangeLaws.{mem-range, any-intro, both, or-left, or-right, first-none}
+use Rattle.sets.specs.RangeLaws.{mem-range, range-mem, any-intro, both, or-left, or-right, first-none}
 use Rattle.sets.specs.BitLaws.{bit-le}
-use Rattle.sets.specs.SubsetLaws.{has-in, in-has}
+use Rattle.sets.specs.PointLaws.{by-bit}
+use Rattle.sets.specs.SubsetLaws.{in-has, not-in, not-has}
 use Rattle.judging.specs.Graph.{adjacent, Valid}
 use Rattle.judging.specs.Request.{Request}
-use Rattle.judging.specs.Refusal.{Reply, refused, answered, Cause, firstOf, mostVertices, mostSlack, outside, vertexCause, slackCause, floorCause, badRow, oneWay, lowestRow, rowCause, edgeCause, graphCauses, setCause, vertexOutCause}
+use Rattle.judging.specs.Refusal.{Reply, refused, answered, Cause, firstOf, mostVertices, mostSlack, outside, vertexCause, slackCause, floorCause}
+use Rattle.judging.specs.Refusal.{badRow, oneWay, lowestRow, rowCause, edgeCause, graphCauses, setCause, vertexOutCause}
 use Rattle.judging.specs.Calls.{passed, graphCheck, slackCheck, requestCheck, setCheck}
 use Rattle.judging.specs.Setting.{Sized, Judgeable}
 
@@ -37,55 +38,51 @@ module _ {A : Type 0} where
   first-append [] ys r = refl
   first-append (c ∷ xs) ys r = ap (λ (z : Reply A). cond (c .holds) (refused (c .number) (c .value)) z) (first-append xs ys r)
 
+-- the causes stop every call in the same way, or let every call through
+data Outcome (cs : List Cause) : Type 1 where
+  stops : (n v : ℕ) → ((A : Type 0) (r : Reply A) → firstOf cs r ≡ refused n v) → Outcome cs
+  goes : ((A : Type 0) (r : Reply A) → firstOf cs r ≡ r) → Outcome cs
+
+outcome : (cs : List Cause) → Outcome cs
+unfolding firstOf
+outcome [] = goes (λ A r. refl)
+outcome (c ∷ cs) = go (c .holds) refl (outcome cs)
+  where
+    go : (b : Bool) → c .holds ≡ b → Outcome cs → Outcome (c ∷ cs)
+    go true e o = stops (c .number) (c .value) (λ A r. first-holds c cs r e)
+    go false e (stops n v f) = stops n v (λ A r. first-skips c cs r e ∙ f A r)
+    go false e (goes f) = goes (λ A r. first-skips c cs r e ∙ f A r)
+
+module _ {A : Type 0} where
   -- a check that was refused refuses whatever comes after it, and one that passed lets it through
   pub first-refused : (xs : List Cause) (n v : ℕ) (r : Reply A) → firstOf xs passed ≡ refused n v → firstOf xs r ≡ refused n v
-  unfolding firstOf
-  first-refused [] n v r e = absurd (never e)
+  first-refused xs n v r e = go (outcome xs)
     where
-      never : passed ≡ refused n v → ⊥
-      never q = let z : _≡_ {A = ℕ} 0 1 = cc in omega arith
-  first-refused (c ∷ xs) n v r e = go (c .holds) e (first-refused xs n v r)
-    where
-      go : (b : Bool) → cond b (refused (c .number) (c .value)) (firstOf xs passed) ≡ refused n v → (firstOf xs passed ≡ refused n v → firstOf xs r ≡ refused n v)
-          → cond b (refused (c .number) (c .value)) (firstOf xs r) ≡ refused n v
-      go true q ih =
-          let a : c .number ≡ n = cc in
-          let b : c .value ≡ v = cc in
-          ap (λ (x : ℕ). refused x (c .value)) a ∙ ap (refused n) b
-      go false q ih = ih q
+      go : Outcome xs → firstOf xs r ≡ refused n v
+      go (stops m w f) = cc (f _ r, f _ passed)
+      go (goes f) = cc (f _ passed)
 
   pub first-passed : (xs : List Cause) (r : Reply A) → firstOf xs passed ≡ passed → firstOf xs r ≡ r
-  unfolding firstOf
-  first-passed [] r e = refl
-  first-passed (c ∷ xs) r e = go (c .holds) e (first-passed xs r)
+  first-passed xs r e = go (outcome xs)
     where
-      go : (b : Bool) → cond b (refused (c .number) (c .value)) (firstOf xs passed) ≡ passed → (firstOf xs passed ≡ passed → firstOf xs r ≡ r)
-          → cond b (refused (c .number) (c .value)) (firstOf xs r) ≡ r
-      go true q ih = absurd (let z : _≡_ {A = ℕ} 0 1 = cc in omega arith)
-      go false q ih = ih q
+      go : Outcome xs → firstOf xs r ≡ r
+      go (stops m w f) = cc (f _ passed)
+      go (goes f) = f _ r
 
   -- a call that succeeds passed its checks, and a refusal does not hang on what a success would answer
   pub answered-passed : (cs : List Cause) (v w : ℕ) (a b : A) → firstOf cs (answered v a) ≡ answered w b → firstOf cs passed ≡ passed
-  unfolding firstOf
-  answered-passed [] v w a b e = refl
-  answered-passed (c ∷ cs) v w a b e = go (c .holds) e (answered-passed cs v w a b)
+  answered-passed cs v w a b e = go (outcome cs)
     where
-      go : (h : Bool) → cond h (refused (c .number) (c .value)) (firstOf cs (answered v a)) ≡ answered w b
-          → (firstOf cs (answered v a) ≡ answered w b → firstOf cs passed ≡ passed)
-          → cond h (refused (c .number) (c .value)) (firstOf cs passed) ≡ passed
-      go true q ih = let z : _≡_ {A = ℕ} 0 1 = cc in absurd (omega arith)
-      go false q ih = ih q
+      go : Outcome cs → firstOf cs passed ≡ passed
+      go (stops m x f) = cc (f _ (answered v a))
+      go (goes f) = f _ passed
 
   pub refused-passed : (cs : List Cause) (v m x : ℕ) (a : A) → firstOf cs (answered v a) ≡ refused m x → firstOf cs passed ≡ refused m x
-  unfolding firstOf
-  refused-passed [] v m x a e = let z : _≡_ {A = ℕ} 0 1 = cc in absurd (omega arith)
-  refused-passed (c ∷ cs) v m x a e = go (c .holds) e (refused-passed cs v m x a)
+  refused-passed cs v m x a e = go (outcome cs)
     where
-      go : (h : Bool) → cond h (refused (c .number) (c .value)) (firstOf cs (answered v a)) ≡ refused m x
-          → (firstOf cs (answered v a) ≡ refused m x → firstOf cs passed ≡ refused m x)
-          → cond h (refused (c .number) (c .value)) (firstOf cs passed) ≡ refused m x
-      go true q ih = cc
-      go false q ih = ih q
+      go : Outcome cs → firstOf cs passed ≡ refused m x
+      go (stops n w f) = cc (f _ (answered v a), f _ passed)
+      go (goes f) = cc (f _ (answered v a))
 
   -- a success answers what was to be answered
   answered-same : (cs : List Cause) (v : ℕ) {w : ℕ} (a : A) {b : A} → firstOf cs (answered v a) ≡ answered w b → answered v a ≡ answered w b
@@ -99,12 +96,11 @@ module _ {A : Type 0} where
 
 -- what passed has no cause that holds
 pub passed-head : (c : Cause) (cs : List Cause) → firstOf (c ∷ cs) passed ≡ passed → c .holds ≡ false
-unfolding firstOf
-passed-head c cs e = go (c .holds) e
+passed-head c cs e = go (c .holds) refl
   where
-    go : (b : Bool) → cond b (refused (c .number) (c .value)) (firstOf cs passed) ≡ passed → b ≡ false
-    go true q = absurd (let z : _≡_ {A = ℕ} 0 1 = cc in omega arith)
-    go false q = refl
+    go : (b : Bool) → c .holds ≡ b → c .holds ≡ false
+    go true p = cc (first-holds c cs passed p)
+    go false p = p
 
 pub passed-tail : (c : Cause) (cs : List Cause) → firstOf (c ∷ cs) passed ≡ passed → firstOf cs passed ≡ passed
 passed-tail c cs e = sym (first-skips c cs passed (passed-head c cs e)) ∙ e
@@ -135,53 +131,49 @@ module _ (g : List ℕ) where
   no-row : (p : ℕ → Bool) → ltb (lowestRow p (length g)) (length g) ≡ false → (a : ℕ) → a < length g → T (p a) → ⊥
   unfolding lowestRow
   no-row p h a l t =
-      first-none p (length g) (range (length g)) (Rattle.sets.specs.RangeLaws.range-mem (length g))
+      first-none p (length g) (range (length g)) (range-mem (length g))
       (λ k. omega (arith, ltb-false (first p (length g) (range (length g))) (length g) h)) a (mem-range (length g) a l) t
 
-  pub no-bad-row : rowCause g .holds ≡ false → (a : ℕ) → a < length g → T (badRow g a) → ⊥
+  no-bad-row : rowCause g .holds ≡ false → (a : ℕ) → a < length g → T (badRow g a) → ⊥
   unfolding rowCause
   no-bad-row h = no-row (badRow g) h
 
-  pub low-rows : rowCause g .holds ≡ false → (a : ℕ) → a < length g → row g a < 2 ^ length g
+  pub rows-below : rowCause g .holds ≡ false → (a : ℕ) → a < length g → row g a < 2 ^ length g
   unfolding badRow
-  low-rows h a l = lt-of-not-le (λ k. no-bad-row h a l (or-right (has (row g a) a) (leb (2 ^ length g) (row g a)) (le→leb (2 ^ length g) (row g a) k)))
+  rows-below h a l =
+      lt-of-not-le (λ k. no-bad-row h a l (or-right (has (row g a) a) (leb (2 ^ length g) (row g a)) (le→leb (2 ^ length g) (row g a) k)))
 
   one-way : ℕ → ℕ → Bool
   one-way a b = adjacent g a b && not (adjacent g b a)
 
-  pub graph-valid : firstOf (graphCauses g) passed ≡ passed → Valid g
+  graph-valid : firstOf (graphCauses g) passed ≡ passed → Valid g
   unfolding graphCauses edgeCause badRow oneWay adjacent one-way
-  graph-valid e = record { low = low-rows h4; loopless = loopless; mutually = mutually }
+  graph-valid e = record { low = rows-below h4; loopless = loopless; mutually = mutually }
     where
       h4 : rowCause g .holds ≡ false
-      h4 = passed-head (rowCause g) (edgeCause g ∷ []) e
+      h4 = passed-head _ _ e
 
       h5 : edgeCause g .holds ≡ false
-      h5 = passed-head (edgeCause g) [] (passed-tail (rowCause g) (edgeCause g ∷ []) e)
+      h5 = passed-head _ _ (passed-tail _ _ e)
 
       loopless : (a : ℕ) → a < length g → bit (row g a) a ≡ 0
-      loopless a l = go (ℕ-discrete (bit (row g a) a) 1)
-        where
-          go : Dec (bit (row g a) a ≡ 1) → bit (row g a) a ≡ 0
-          go (yes q) = absurd (no-bad-row h4 a l (or-left (has (row g a) a) (leb (2 ^ length g) (row g a)) (in-has (row g a) a q)))
-          go (no nq) = omega (arith, bit-le (row g a) a)
+      loopless a l =
+          not-in (row g a) a
+          (not-T (has (row g a) a) (λ t. no-bad-row h4 a l (or-left (has (row g a) a) (leb (2 ^ length g) (row g a)) t)))
 
-      half : (a b : ℕ) → a < length g → b < length g → bit (row g a) b ≡ 1 → bit (row g b) a ≡ 1
-      half a b la lb q = go (ℕ-discrete (bit (row g b) a) 1)
-        where
-          go : Dec (bit (row g b) a ≡ 1) → bit (row g b) a ≡ 1
-          go (yes d) = d
-          go (no nd) =
-              absurd (no-row (oneWay g) h5 a la (any-intro (one-way a) (range (length g)) b (mem-range (length g) b lb)
-              (both (adjacent g a b) (not (adjacent g b a)) (in-has (row g a) b q) (not-T (adjacent g b a) (λ t. nd (has-in (row g b) a t))))))
+      never : (a b : ℕ) → a < length g → b < length g → In b (row g a) → bit (row g b) a ≡ 0 → ⊥
+      never a b la lb i o =
+          no-row (oneWay g) h5 a la
+          (any-intro (one-way a) (range (length g)) b (mem-range (length g) b lb)
+          (both (adjacent g a b) (not (adjacent g b a)) (in-has (row g a) b i) (not-has (row g b) a o)))
+
+      half : (a b : ℕ) → a < length g → b < length g → bit (row g a) b ≤ bit (row g b) a
+      half a b la lb =
+          by-bit (row g b) a (λ i. omega (arith, bit-le (row g a) b)) (λ o.
+          by-bit (row g a) b (λ i. absurd (never a b la lb i o)) (λ z. omega arith))
 
       mutually : (a b : ℕ) → a < length g → b < length g → bit (row g a) b ≡ bit (row g b) a
-      mutually a b la lb = go (ℕ-discrete (bit (row g a) b) 1) (ℕ-discrete (bit (row g b) a) 1)
-        where
-          go : Dec (bit (row g a) b ≡ 1) → Dec (bit (row g b) a ≡ 1) → bit (row g a) b ≡ bit (row g b) a
-          go (yes d) q = d ∙ sym (half a b la lb d)
-          go (no nd) (yes q) = absurd (nd (half b a lb la q))
-          go (no nd) (no nq) = omega (arith, bit-le (row g a) b, bit-le (row g b) a)
+      mutually a b la lb = omega (arith, half a b la lb, half b a lb la)
 
   -- ---- what is known of an input that passes
 
@@ -190,40 +182,33 @@ module _ (g : List ℕ) where
 
   pub graph-sized : firstOf (graphCheck g) passed ≡ passed → Sized g
   unfolding graphCheck vertexCause
-  graph-sized e = sized (passed-head (vertexCause (length g)) (graphCauses g) e)
+  graph-sized e = sized (passed-head _ _ e)
 
   pub graph-checked : firstOf (graphCheck g) passed ≡ passed → Valid g
   unfolding graphCheck
-  graph-checked e = graph-valid (passed-tail (vertexCause (length g)) (graphCauses g) e)
+  graph-checked e = graph-valid (passed-tail _ _ e)
 
   pub slack-accepted : (k : ℕ) → firstOf (slackCheck g k) passed ≡ passed → (1 ≤ k) × (k ≤ mostSlack)
   unfolding slackCheck slackCause
-  slack-accepted k e = within-range 1 mostSlack k (passed-head (slackCause k) (graphCauses g) (passed-tail (vertexCause (length g)) (slackCause k ∷ graphCauses g) e))
+  slack-accepted k e = within-range 1 mostSlack k (passed-head _ _ (passed-tail _ _ e))
 
   pub slack-graph : (k : ℕ) → firstOf (slackCheck g k) passed ≡ passed → firstOf (graphCheck g) passed ≡ passed
   unfolding slackCheck graphCheck
-  slack-graph k e =
-      let cs = slackCause k ∷ graphCauses g in
-      first-skips (vertexCause (length g)) (graphCauses g) passed (passed-head (vertexCause (length g)) cs e)
-      ∙ passed-tail (slackCause k) (graphCauses g) (passed-tail (vertexCause (length g)) cs e)
+  slack-graph k e = first-skips _ _ passed (passed-head _ _ e) ∙ passed-tail _ _ (passed-tail _ _ e)
 
   pub request-slack : (ask : Request) → firstOf (requestCheck g ask) passed ≡ passed → firstOf (slackCheck g (ask .slack)) passed ≡ passed
   unfolding slackCheck requestCheck
   request-slack ask e =
-      let k = ask .slack in
-      let limit = floorCause k (ask .floor) in
-      let after = passed-tail (vertexCause (length g)) (slackCause k ∷ limit ∷ graphCauses g) e in
-      first-skips (vertexCause (length g)) (slackCause k ∷ graphCauses g) passed (passed-head (vertexCause (length g)) (slackCause k ∷ limit ∷ graphCauses g) e)
-      ∙ first-skips (slackCause k) (graphCauses g) passed (passed-head (slackCause k) (limit ∷ graphCauses g) after)
-      ∙ passed-tail limit (graphCauses g) (passed-tail (slackCause k) (limit ∷ graphCauses g) after)
+      let after = passed-tail _ _ e in
+      first-skips _ _ passed (passed-head _ _ e)
+      ∙ first-skips _ _ passed (passed-head _ _ after)
+      ∙ passed-tail _ _ (passed-tail _ _ after)
 
-  pub floor-accepted : (ask : Request) → firstOf (requestCheck g ask) passed ≡ passed → (2 * ask .slack - 1 ≤ ask .floor) × (ask .floor ≤ mostVertices)
+  pub floor-accepted : (ask : Request) → firstOf (requestCheck g ask) passed ≡ passed
+      → (2 * ask .slack - 1 ≤ ask .floor) × (ask .floor ≤ mostVertices)
   unfolding requestCheck floorCause
   floor-accepted ask e =
-      let k = ask .slack in
-      let limit = floorCause k (ask .floor) in
-      let after = passed-tail (vertexCause (length g)) (slackCause k ∷ limit ∷ graphCauses g) e in
-      within-range (2 * k - 1) mostVertices (ask .floor) (passed-head limit (graphCauses g) (passed-tail (slackCause k) (limit ∷ graphCauses g) after))
+      within-range (2 * ask .slack - 1) mostVertices (ask .floor) (passed-head _ _ (passed-tail _ _ (passed-tail _ _ e)))
 
   pub set-below : (s : ℕ) → setCause g s .holds ≡ false → s < 2 ^ length g
   unfolding setCause
@@ -236,14 +221,7 @@ module _ (g : List ℕ) where
   pub set-checked : (k s : ℕ) → firstOf (setCheck g k s) passed ≡ passed → Judgeable g s
   unfolding setCheck
   set-checked k s e =
-      let front = slack-graph k (passed-front (slackCheck g k) (setCause g s ∷ []) e) in
+      let front = slack-graph k (passed-front _ _ e) in
       let z = graph-sized front in
-      record {
-        inside =
-            record {
-              some = z .some;
-              most = z .most;
-              below = set-below s (passed-head (setCause g s) [] (passed-back (slackCheck g k) (setCause g s ∷ []) e));
-            };
-        valid = graph-checked front;
-      }
+      let below = set-below s (passed-head _ _ (passed-back (slackCheck g k) _ e)) in
+      record { inside = record { some = z .some; most = z .most; below = below }; valid = graph-checked front }

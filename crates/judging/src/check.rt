@@ -47,6 +47,13 @@ pub fn floor_accepted(k: usize, q: usize) -> bool
     is_between(2 * k - 1, MOST_VERTICES, q)
 }
 
+// Is the number of rows accepted?
+fn rows_accepted(rows: &[u64]) -> bool
+    ensures { λ r. ⌜ r ≡ not (outside 1 mostVertices (length (masks (now (rows .entry))))) ⌝ }
+{
+    vertices_accepted(sets::count(rows))
+}
+
 // Has row a its own bit, or a bit of n or above?
 fn is_bad_row(rows: &[u64], a: usize) -> bool
     requires { ⌜ Sized (masks (now rows)) × (a < length (masks (now rows))) ⌝ }
@@ -113,7 +120,7 @@ pub fn check_edges(rows: &[u64]) -> Checked
 pub fn check_graph(rows: &[u64]) -> Checked
     ensures { λ r. ⌜ checkedReply r ≡ firstOf (graphCheck (masks (now (rows .entry)))) passed ⌝ }
 {
-    if !vertices_accepted(sets::count(rows)) {
+    if !rows_accepted(rows) {
         return Checked::Failed(Refusal::Vertices);
     }
     check_edges(rows)
@@ -123,7 +130,7 @@ pub fn check_graph(rows: &[u64]) -> Checked
 fn check_slack(rows: &[u64], slack: usize) -> Checked
     ensures { λ r. ⌜ checkedReply r ≡ firstOf (slackCheck (masks (now (rows .entry))) slack) passed ⌝ }
 {
-    if !vertices_accepted(sets::count(rows)) {
+    if !rows_accepted(rows) {
         return Checked::Failed(Refusal::Vertices);
     }
     if !slack_accepted(slack) {
@@ -136,7 +143,7 @@ fn check_slack(rows: &[u64], slack: usize) -> Checked
 pub fn check_request(rows: &[u64], request: Request) -> Checked
     ensures { λ r. ⌜ checkedReply r ≡ firstOf (requestCheck (masks (now (rows .entry))) (asked request)) passed ⌝ }
 {
-    if !vertices_accepted(sets::count(rows)) {
+    if !rows_accepted(rows) {
         return Checked::Failed(Refusal::Vertices);
     }
     if !slack_accepted(request.slack) {

@@ -4,7 +4,7 @@ use crate::words;
 use sets::Set;
 
 // There are graphs of at most 16 vertices here.
-const MASKS: u64 = 65536;
+const MOST_VERTICES: usize = 16;
 
 // Is v a member of s that is adjacent to fewer than |s| - k members?
 fn fails(rows: &[u64], k: usize, s: Set, v: usize) -> bool {
@@ -44,52 +44,39 @@ fn extends(rows: &[u64], k: usize, s: Set, x: usize) -> bool {
     is_plex(rows, k, sets::with(s, x))
 }
 
-// Is s a maximal k-plex? Every vertex is tried.
-fn is_maximal(rows: &[u64], k: usize, s: Set) -> bool {
-    if !is_plex(rows, k, s) {
-        return false;
-    }
+// Is there a vertex that extends the k-plex s? Every vertex is tried.
+fn is_extendable(rows: &[u64], k: usize, s: Set) -> bool {
     let n = sets::count(rows);
     let mut x = 0;
     while x < n {
         if extends(rows, k, s, x) {
-            return false;
+            return true;
         }
         x += 1;
     }
-    true
+    false
 }
 
-// Is s a set of vertices of the graph?
-fn is_inside(rows: &[u64], s: Set) -> bool {
+// Is s a maximal k-plex of at least q members?
+fn is_listed(rows: &[u64], k: usize, q: usize, s: Set) -> bool {
+    q <= sets::size(s) && is_plex(rows, k, s) && !is_extendable(rows, k, s)
+}
+
+// How many masks the graph has.
+fn count_masks(rows: &[u64]) -> u64 {
     let n = sets::count(rows);
-    if n == 0 || sets::WIDTH < n {
-        return false;
+    if MOST_VERTICES < n {
+        return 0;
     }
-    sets::below(s, n)
+    1u64 << n
 }
 
-// Stores s behind the `kept` masks if it has at least q members, and gives how many are kept then.
-fn keep(slots: &mut [u64], kept: usize, q: usize, s: Set) -> usize
+// Stores s behind the `kept` masks if it is wanted, and gives how many are kept then.
+fn keep(slots: &mut [u64], kept: usize, s: Set, wanted: bool) -> usize
     requires { ⌜ kept + 1 < 2 ^ 64 ⌝ }
     ensures { λ r. ⌜ r ≤ kept + 1 ⌝ }
 {
-    if sets::size(s) < q {
-        return kept;
-    }
-    words::store(slots, kept, s);
-    kept + 1
-}
-
-// Stores s behind the `kept` masks if it is a maximal k-plex of at least q members, and gives how many are kept then.
-fn keep_maximal(rows: &[u64], k: usize, q: usize, slots: &mut [u64], kept: usize, s: Set) -> usize
-    requires { ⌜ kept + 1 < 2 ^ 64 ⌝ }
-    ensures { λ r. ⌜ r ≤ kept + 1 ⌝ }
-{
-    if sets::size(s) < q {
-        return kept;
-    }
-    if !is_maximal(rows, k, s) {
+    if !wanted {
         return kept;
     }
     words::store(slots, kept, s);
@@ -98,11 +85,13 @@ fn keep_maximal(rows: &[u64], k: usize, q: usize, slots: &mut [u64], kept: usize
 
 // Stores each mask whose set is a maximal k-plex of at least q members, in rising order, and gives their number.
 pub fn list(rows: &[u64], k: usize, q: usize, slots: &mut [u64]) -> usize {
+    let most = count_masks(rows);
     let mut m = 0;
-    let mut s = 0u64;
-    while s < MASKS && is_inside(rows, sets::of_word(s)) {
-        m = keep_maximal(rows, k, q, slots, m, sets::of_word(s));
-        s += 1;
+    let mut mask = 0u64;
+    while mask < most {
+        let s = sets::of_word(mask);
+        m = keep(slots, m, s, is_listed(rows, k, q, s));
+        mask += 1;
     }
     m
 }
@@ -113,7 +102,7 @@ pub fn keep_large(slots: &mut [u64], m: usize, q: usize) -> usize {
     let mut i = 0;
     while i < m {
         let s = words::at(slots, i);
-        kept = keep(slots, kept, q, s);
+        kept = keep(slots, kept, s, q <= sets::size(s));
         i += 1;
     }
     kept

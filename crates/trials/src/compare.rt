@@ -1,6 +1,8 @@
 // Lists of the search beside those of trying all sets.
+ghost use Prim.Native.Nat.{_≤_};
 use crate::all_sets;
 use crate::graphs;
+use crate::refusals;
 use crate::sheet;
 use crate::tally;
 use crate::tally::Tally;
@@ -30,10 +32,8 @@ const ROW_WORDS: usize = MOST_VERTICES * sets::WORDS;
 
 // Is it right to refuse m masks to these slots?
 fn rightly_refused(f: Refusal, m: usize, slots: &[u64]) -> bool {
-    if m <= sets::count(slots) {
-        return false;
-    }
-    judging::number(f) == 6 && judging::value(f) == m && words::all_are(slots, 0, 0)
+    let short = sets::count(slots) < m;
+    short & refusals::is(f, 6, m) & words::all_are(slots, 0, 0)
 }
 
 // Do these slots, which hold garbage before, get the m masks, or all become 0 where there are too few?
@@ -42,105 +42,104 @@ fn agrees(rows: &[u64], request: Request, masks: &[u64], m: usize, slots: &mut [
     let found = search::list(rows, request, slots);
     match found {
         ListFound::Listed(l) => {
-            l == m && words::same_front(slots, masks, m) && words::all_are(slots, m, GARBAGE)
+            (l == m) & words::same_front(slots, masks, m) & words::all_are(slots, m, GARBAGE)
         }
         ListFound::Refused(f) => rightly_refused(f, m, slots),
     }
 }
 
-// The same with so many slots, if there are so many. A difference prints the graph.
-fn agrees_with(
+// The same with so many slots, if there are so many: a case more. A difference prints the graph.
+fn with_slots(
+    cases: Tally,
     rows: &[u64],
     request: Request,
     masks: &[u64],
     m: usize,
     slots: &mut [u64],
     room: usize,
-) -> bool {
+) -> Tally {
     if sets::count(slots) < room {
-        return false;
+        return tally::with(cases, false);
     }
     let end = words::end(slots, room);
     let right = agrees(rows, request, masks, m, &mut slots[0..end]);
     if !right {
         sheet::print(rows, request);
     }
-    right
+    tally::with(cases, right)
 }
 
-// One floor: slots too few by one, just enough, and more.
-fn floor(rows: &[u64], request: Request, masks: &[u64], m: usize, slots: &mut [u64]) -> Tally {
+// One floor: slots just enough, more, and too few by one.
+fn floor(
+    cases: Tally,
+    rows: &[u64],
+    request: Request,
+    masks: &[u64],
+    m: usize,
+    slots: &mut [u64],
+) -> Tally {
     if MASKS < m {
-        return tally::with(tally::none(), false);
+        return tally::with(cases, false);
     }
-    let exact = agrees_with(rows, request, masks, m, slots, m);
-    let longer = agrees_with(rows, request, masks, m, slots, m + EXTRA_SLOTS);
-    let cases = tally::with(tally::with(tally::none(), exact), longer);
+    let exact = with_slots(cases, rows, request, masks, m, slots, m);
+    let longer = with_slots(exact, rows, request, masks, m, slots, m + EXTRA_SLOTS);
     if m == 0 {
-        return cases;
+        return longer;
     }
-    tally::with(cases, agrees_with(rows, request, masks, m, slots, m - 1))
+    with_slots(longer, rows, request, masks, m, slots, m - 1)
 }
 
 // One slack: every floor that is allowed beside it. The masks are those of the least.
-fn floors(rows: &[u64], k: usize, masks: &mut [u64], slots: &mut [u64]) -> Tally {
-    let mut cases = tally::none();
-    if k == 0 {
-        return cases;
-    }
-    if MOST_SLACK < k {
-        return cases;
-    }
+fn floors(start: Tally, rows: &[u64], k: usize, masks: &mut [u64], slots: &mut [u64]) -> Tally
+    requires { ⌜ (1 ≤ k) × (k ≤ 32) ⌝ }
+{
+    let mut cases = start;
     let mut q = 2 * k - 1;
     let mut m = all_sets::list(rows, k, q, masks);
     while q <= MOST_FLOOR {
         m = all_sets::keep_large(masks, m, q);
-        let request = Request { slack: k, floor: q };
-        cases = tally::sum(cases, floor(rows, request, masks, m, slots));
+        cases = floor(cases, rows, Request { slack: k, floor: q }, masks, m, slots);
         q += 1;
     }
     cases
 }
 
 // One graph: every slack.
-fn graph(rows: &[u64]) -> Tally {
+fn graph(cases: Tally, rows: &[u64]) -> Tally {
     let mut masks = [0u64; MASK_WORDS];
     let mut slots = [0u64; SLOT_WORDS];
-    slacks(rows, &mut masks, &mut slots)
+    slacks(cases, rows, &mut masks, &mut slots)
 }
 
-fn slacks(rows: &[u64], masks: &mut [u64], slots: &mut [u64]) -> Tally {
-    let mut cases = tally::none();
+fn slacks(start: Tally, rows: &[u64], masks: &mut [u64], slots: &mut [u64]) -> Tally {
+    let mut cases = start;
     let mut k = 1;
     while k <= MOST_SLACK {
-        cases = tally::sum(cases, floors(rows, k, masks, slots));
+        cases = floors(cases, rows, k, masks, slots);
         k += 1;
     }
     cases
 }
 
 // The graph of the family with a vertex for each row.
-fn built(rows: &mut [u64], family: usize, variant: usize) -> Tally {
+fn built(cases: Tally, rows: &mut [u64], family: usize, variant: usize) -> Tally {
     graphs::build(rows, family, variant);
-    graph(rows)
+    graph(cases, rows)
 }
 
 // The same with n rows.
-fn sized(family: usize, n: usize, variant: usize) -> Tally {
+fn sized(cases: Tally, family: usize, n: usize, variant: usize) -> Tally {
     let mut rows = [0u64; ROW_WORDS];
-    if sets::count(&rows) < n {
-        return tally::none();
-    }
     let end = words::end(&rows, n);
-    built(&mut rows[0..end], family, variant)
+    built(cases, &mut rows[0..end], family, variant)
 }
 
 // All variants with n vertices.
-fn variants(family: usize, n: usize, most: usize) -> Tally {
-    let mut cases = tally::none();
+fn variants(start: Tally, family: usize, n: usize, most: usize) -> Tally {
+    let mut cases = start;
     let mut variant = 0;
     while variant < most {
-        cases = tally::sum(cases, sized(family, n, variant));
+        cases = sized(cases, family, n, variant);
         variant += 1;
     }
     cases
@@ -151,7 +150,7 @@ pub fn group(family: usize, most: usize) -> Tally {
     let mut cases = tally::none();
     let mut n = 1;
     while n <= MOST_VERTICES {
-        cases = tally::sum(cases, variants(family, n, most));
+        cases = variants(cases, family, n, most);
         n += 1;
     }
     cases

@@ -1,6 +1,7 @@
 // Edges of the call that lists.
 use crate::graphs;
 use crate::graphs::NOWHERE;
+use crate::refusals;
 use crate::tally;
 use crate::tally::Tally;
 use crate::words;
@@ -11,8 +12,8 @@ use search::ListFound;
 // Is the answer this number and this value?
 fn gives(found: ListFound, number: usize, value: usize) -> bool {
     match found {
-        ListFound::Listed(m) => number == 0 && value == m,
-        ListFound::Refused(f) => judging::number(f) == number && judging::value(f) == value,
+        ListFound::Listed(m) => (number == 0) & (value == m),
+        ListFound::Refused(f) => refusals::is(f, number, value),
     }
 }
 
@@ -27,7 +28,7 @@ fn answers(
 ) -> bool {
     words::fill(slots, GARBAGE);
     let found = search::list(rows, request, slots);
-    gives(found, number, value) && words::all_are(slots, 0, after)
+    gives(found, number, value) & words::all_are(slots, 0, after)
 }
 
 // The ring with these faults, four slots.
@@ -103,8 +104,8 @@ fn all_of_64(k: usize, q: usize) -> bool {
     graphs::build(&mut rows, graphs::COMPLETE, 0);
     let found = search::list(&rows, Request { slack: k, floor: q }, &mut slots);
     gives(found, 0, 1)
-        && words::is(words::at(&slots, 0), u64::MAX)
-        && words::is(words::at(&slots, 1), GARBAGE)
+        & words::is(words::at(&slots, 0), u64::MAX)
+        & words::is(words::at(&slots, 1), GARBAGE)
 }
 
 pub fn ranges() -> Tally {

@@ -12,14 +12,20 @@ mod words;
 // How many graphs of each number of vertices a group of pseudo-random ones has: ten of each density from 0 to 100 in steps of 5.
 const RANDOM: usize = 210;
 
-fn edge_cases() {
+fn list_cases() {
     tally::print(b"accepted slack and floor", lists::ranges());
     tally::print(b"all of 64 adjacent", lists::all_adjacent());
     tally::print(b"floor above n, no slots", lists::none());
     tally::print(b"refusals of the list", lists::refused());
+}
+
+fn refusal_cases() {
     tally::print(b"refusals of the judges", refusals::judged());
     tally::print(b"refusals of core and reach", refusals::found());
     tally::print(b"refusals of the bounds", refusals::bounded());
+}
+
+fn sheet_cases() {
     tally::print(b"sheets read", sheet::read());
     tally::print(b"sheets written", sheet::written());
 }
@@ -43,6 +49,8 @@ fn comparisons() {
 }
 
 fn main() {
-    edge_cases();
+    list_cases();
+    refusal_cases();
+    sheet_cases();
     comparisons();
 }

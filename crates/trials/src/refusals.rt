@@ -11,34 +11,34 @@ use judging::Refusal;
 use judging::Request;
 
 // Is the refusal this number and this value?
-fn refused(f: Refusal, number: usize, value: usize) -> bool {
-    judging::number(f) == number && judging::value(f) == value
+pub fn is(f: Refusal, number: usize, value: usize) -> bool {
+    (judging::number(f) == number) & (judging::value(f) == value)
 }
 
 fn judge_gives(found: Judged, number: usize, value: usize) -> bool {
     match found {
-        Judged::Refused(f) => refused(f, number, value),
+        Judged::Refused(f) => is(f, number, value),
         _ => number == 0,
     }
 }
 
 fn core_gives(found: CoreFound, number: usize, value: usize) -> bool {
     match found {
-        CoreFound::Refused(f) => refused(f, number, value),
+        CoreFound::Refused(f) => is(f, number, value),
         CoreFound::Core(_) => number == 0,
     }
 }
 
 fn reach_gives(found: ReachFound, number: usize, value: usize) -> bool {
     match found {
-        ReachFound::Refused(f) => refused(f, number, value),
+        ReachFound::Refused(f) => is(f, number, value),
         ReachFound::Reach(_) => number == 0,
     }
 }
 
 fn bound_gives(found: BoundFound, number: usize, value: usize) -> bool {
     match found {
-        BoundFound::Refused(f) => refused(f, number, value),
+        BoundFound::Refused(f) => is(f, number, value),
         BoundFound::Bound(_) => number == 0,
     }
 }
@@ -49,7 +49,7 @@ fn judge(own: usize, one: usize, k: usize, mask: u64, number: usize, value: usiz
     let mut rows = [0u64; 5 * sets::WORDS];
     graphs::build_faulty(&mut rows, own, NOWHERE, one);
     judge_gives(judging::judge_plex(&rows, k, s), number, value)
-        && judge_gives(judging::judge_maximal(&rows, k, s), number, value)
+        & judge_gives(judging::judge_maximal(&rows, k, s), number, value)
 }
 
 fn core(own: usize, one: usize, k: usize, q: usize, number: usize, value: usize) -> bool {
@@ -84,7 +84,7 @@ fn bound(
     let held = sets::of_word(s);
     let free = sets::of_word(c);
     bound_gives(bounds::first_bound(&rows, k, held, free, v), number, value)
-        && bound_gives(bounds::second_bound(&rows, k, held, free, v), number, value)
+        & bound_gives(bounds::second_bound(&rows, k, held, free, v), number, value)
 }
 
 // No row.
@@ -92,8 +92,8 @@ fn no_rows() -> bool {
     let rows = [0u64; 0];
     let s = sets::of_word(32);
     judge_gives(judging::judge_plex(&rows, 0, s), 1, 0)
-        && judge_gives(judging::judge_maximal(&rows, 0, s), 1, 0)
-        && core_gives(
+        & judge_gives(judging::judge_maximal(&rows, 0, s), 1, 0)
+        & core_gives(
             bounds::find_core(
                 &rows,
                 Request {
@@ -104,9 +104,9 @@ fn no_rows() -> bool {
             1,
             0,
         )
-        && reach_gives(bounds::find_reach(&rows, 0), 1, 0)
-        && bound_gives(bounds::first_bound(&rows, 0, s, s, 5), 1, 0)
-        && bound_gives(bounds::second_bound(&rows, 0, s, s, 5), 1, 0)
+        & reach_gives(bounds::find_reach(&rows, 0), 1, 0)
+        & bound_gives(bounds::first_bound(&rows, 0, s, s, 5), 1, 0)
+        & bound_gives(bounds::second_bound(&rows, 0, s, s, 5), 1, 0)
 }
 
 // 1, 2, 4, 5, 7

@@ -1,5 +1,6 @@
 // Sheets, read and written at their edge cases; and the sheet of a graph, printed.
 use crate::graphs;
+use crate::refusals;
 use crate::tally;
 use crate::tally::Tally;
 use crate::words;
@@ -83,9 +84,9 @@ fn ring(text: &mut [u8]) -> SheetWritten {
 fn read_gives(found: SheetRead, number: usize, value: usize) -> bool {
     match found {
         SheetRead::Read { vertices, request } => {
-            number == 0 && vertices == 5 && request.slack == 2 && request.floor == 3
+            (number == 0) & (vertices == 5) & (request.slack == 2) & (request.floor == 3)
         }
-        SheetRead::Refused(f) => judging::number(f) == number && judging::value(f) == value,
+        SheetRead::Refused(f) => refusals::is(f, number, value),
     }
 }
 
@@ -93,7 +94,7 @@ fn read_gives(found: SheetRead, number: usize, value: usize) -> bool {
 fn reads(text: &[u8], rows: &mut [u64], number: usize, value: usize, from: usize) -> bool {
     words::fill(rows, GARBAGE);
     let found = sheets::read_sheet(text, rows);
-    read_gives(found, number, value) && words::all_are(rows, from, GARBAGE)
+    read_gives(found, number, value) & words::all_are(rows, from, GARBAGE)
 }
 
 fn reads_front(
@@ -152,8 +153,8 @@ fn heading_read() -> Tally {
     tally::with(cases, damaged(5, 1, 64, NOWHERE, 0, LENGTH, 4, 9, 5))
 }
 
-fn rows_read() -> Tally {
-    let mut cases = tally::with(tally::none(), cut(22, 51, 93, 0, 8, 7));
+fn rows_read(heading: Tally) -> Tally {
+    let mut cases = tally::with(heading, cut(22, 51, 93, 0, 8, 7));
     cases = tally::with(cases, cut(24, 120, 93, 0, 8, 3));
     cases = tally::with(cases, cut(NOWHERE, 0, 91, 0, 8, 6));
     cases = tally::with(cases, cut(NOWHERE, 0, 75, 0, 8, 6));
@@ -167,13 +168,13 @@ fn rows_read() -> Tally {
 }
 
 pub fn read() -> Tally {
-    tally::sum(heading_read(), rows_read())
+    rows_read(heading_read())
 }
 
 fn write_gives(found: SheetWritten, number: usize, value: usize) -> bool {
     match found {
-        SheetWritten::Written(n) => number == 0 && n == value,
-        SheetWritten::Refused(f) => judging::number(f) == number && judging::value(f) == value,
+        SheetWritten::Written(n) => (number == 0) & (n == value),
+        SheetWritten::Refused(f) => refusals::is(f, number, value),
     }
 }
 
@@ -188,7 +189,7 @@ fn writes(
 ) -> bool {
     wipe(text);
     let found = sheets::write_sheet(rows, request, text);
-    write_gives(found, number, value) && is_kept(text, from)
+    write_gives(found, number, value) & is_kept(text, from)
 }
 
 // The ring, whose vertex `own` has its own bit and `one` a neighbour whose row lacks it, is written into so many bytes.

@@ -23,14 +23,6 @@ pub fn with(tally: Tally, right: bool) -> Tally {
     }
 }
 
-// The cases of both.
-pub fn sum(a: Tally, b: Tally) -> Tally {
-    Tally {
-        cases: std::num::wrapping_add_u64(a.cases, b.cases),
-        different: std::num::wrapping_add_u64(a.different, b.different),
-    }
-}
-
 // Prints a group's line.
 pub fn print(name: &[u8], tally: Tally) {
     io::write_all(STDOUT_FILENO, name);

@@ -59,7 +59,7 @@ pub fn all_are(words: &[u64], from: usize, x: u64) -> bool {
 
 // Have both m sets, and are these the same?
 pub fn same_front(a: &[u64], b: &[u64], m: usize) -> bool {
-    if sets::count(a) < m || sets::count(b) < m {
+    if (sets::count(a) < m) | (sets::count(b) < m) {
         return false;
     }
     let mut i = 0;

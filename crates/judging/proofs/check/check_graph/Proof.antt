@@ -1,38 +1,22 @@
--- `judging::check::check_graph` meets its contract: one cause after the other.
-use mathlib.Core.Path.{sym, ap, _∙_}
-use Rattle.judging.specs.Refusal.{outside, mostVertices, vertexCause}
-use Rattle.judging.specs.Calls.{passed, graphCheck}
-use Rattle.judging.specs.RefusalLaws.{first-holds, first-skips, sized}
-use Rattle.judging.specs.CallLaws.{not-accepted, accepted}
+-- The number of rows is tested first; where it is accepted, what is left are the causes of the edges.
+use Rattle.judging.specs.Refusal.{vertexCause}
+use Rattle.judging.specs.Calls.{graphCheck}
+use Rattle.judging.specs.RefusalLaws.{sized}
+use Rattle.judging.specs.CallLaws.{accepted, test-refused, test-accepted}
 use borrow.Author.Needs.{needs}
 use Rattle.judging.proofs.check.check_graph.Statement.{statement}
 use Rattle.judging.proofs.check.check_graph.Tie as tie
 
-count-requires : tie.Need-count-requires
-count-requires c κs = search needs
-
-vertices-accepted-requires : tie.Need-vertices-accepted-requires
-vertices-accepted-requires c κs = search needs
-
 returns : tie.Need-returns
 unfolding graphCheck vertexCause
-returns c =
-    sym (first-holds _ _ passed
-    (ap (outside 1 mostVertices) (sym (c .before .before .count .ensures)) ∙ not-accepted _ _ (c .before .vertices-accepted .ensures) (c .if1 .taken)))
+returns c = test-refused _ _ (c .before .rows-accepted .ensures) (c .if1 .taken)
 
 check-edges-requires : tie.Need-check-edges-requires
-check-edges-requires c κs =
-    sized _ (ap (outside 1 mostVertices) (sym (c .before .before .count .ensures)) ∙ accepted _ _ (c .before .vertices-accepted .ensures) (c .if1 .left))
+check-edges-requires c κs = sized _ (accepted _ _ (c .before .rows-accepted .ensures) (c .if1 .left))
 
 returns-2 : tie.Need-returns-2
 unfolding graphCheck vertexCause
-returns-2 c =
-    let asked = c .before .before in
-    c .check-edges .ensures
-    ∙ sym (first-skips _ _ passed
-    (ap (outside 1 mostVertices) (sym (asked .before .count .ensures)) ∙ accepted _ _ (asked .vertices-accepted .ensures) (c .before .if1 .left)))
+returns-2 c = test-accepted _ _ (c .before .before .rows-accepted .ensures) (c .before .if1 .left) (c .check-edges .ensures)
 
 pub check-graph-spec : {M : Type 1} → statement M
-check-graph-spec =
-    tie.close
-    (tie.spec count-requires vertices-accepted-requires returns check-edges-requires returns-2)
+check-graph-spec = tie.close (tie.spec (λ c. search needs) returns check-edges-requires returns-2)

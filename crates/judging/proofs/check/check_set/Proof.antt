@@ -11,23 +11,11 @@ use borrow.Author.Needs.{needs}
 use Rattle.judging.proofs.check.check_set.Statement.{statement}
 use Rattle.judging.proofs.check.check_set.Tie as tie
 
-check-slack-requires : tie.Need-check-slack-requires
-check-slack-requires c κs = search needs
-
-enum-known-checked : tie.Need-enum-known-checked
-enum-known-checked c = search needs
-
 returns : tie.Need-returns
 unfolding setCheck
 returns c =
     check-failed _ _ (c .before .before .before .check-slack .ensures) _ _ (c .before .checked .given .1)
     ∙ sym (first-append _ _ passed)
-
-enum-told : tie.Need-enum-told
-enum-told c = search needs
-
-count-requires : tie.Need-count-requires
-count-requires c κs = search needs
 
 below-requires : tie.Need-below-requires
 below-requires c κs =
@@ -55,11 +43,4 @@ pub check-set-spec : {M : Type 1} → statement M
 check-set-spec =
     tie.close
     (tie.spec
-    check-slack-requires
-    enum-known-checked
-    returns
-    enum-told
-    count-requires
-    below-requires
-    returns-2
-    returns-3)
+    (λ c. search needs) (λ c. search needs) returns (λ c. search needs) (λ c. search needs) below-requires returns-2 returns-3)

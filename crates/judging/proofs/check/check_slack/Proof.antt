@@ -1,60 +1,33 @@
--- `judging::check::check_slack` meets its contract: one cause after the other.
-use mathlib.Core.Path.{sym, ap, _∙_}
-use Rattle.judging.specs.Refusal.{outside, mostVertices, vertexCause, slackCause}
-use Rattle.judging.specs.Calls.{passed, slackCheck}
-use Rattle.judging.specs.RefusalLaws.{first-holds, first-skips, sized}
-use Rattle.judging.specs.CallLaws.{not-accepted, accepted}
+-- One test after the other, in the order of the causes: the number of rows, the slack, and then the edges.
+use Rattle.judging.specs.Refusal.{vertexCause, slackCause}
+use Rattle.judging.specs.Calls.{slackCheck}
+use Rattle.judging.specs.RefusalLaws.{sized}
+use Rattle.judging.specs.CallLaws.{accepted, test-refused, test-accepted}
 use borrow.Author.Needs.{needs}
 use Rattle.judging.proofs.check.check_slack.Statement.{statement}
 use Rattle.judging.proofs.check.check_slack.Tie as tie
 
-count-requires : tie.Need-count-requires
-count-requires c κs = search needs
-
-vertices-accepted-requires : tie.Need-vertices-accepted-requires
-vertices-accepted-requires c κs = search needs
-
 returns : tie.Need-returns
 unfolding slackCheck vertexCause slackCause
-returns c =
-    sym (first-holds _ _ passed
-    (ap (outside 1 mostVertices) (sym (c .before .before .count .ensures)) ∙ not-accepted _ _ (c .before .vertices-accepted .ensures) (c .if1 .taken)))
-
-slack-accepted-requires : tie.Need-slack-accepted-requires
-slack-accepted-requires c κs = search needs
+returns c = test-refused _ _ (c .before .rows-accepted .ensures) (c .if1 .taken)
 
 returns-2 : tie.Need-returns-2
 unfolding slackCheck vertexCause slackCause
 returns-2 c =
-    let asked = c .before .before .before in
-    sym (first-skips _ _ passed
-    (ap (outside 1 mostVertices) (sym (asked .before .count .ensures)) ∙ accepted _ _ (asked .vertices-accepted .ensures) (c .before .before .if1 .left))
-    ∙ first-holds _ _ passed (not-accepted _ _ (c .before .slack-accepted .ensures) (c .if2 .taken)))
+    let rows = c .before .before in
+    test-accepted _ _ (rows .before .rows-accepted .ensures) (rows .if1 .left)
+    (test-refused _ _ (c .before .slack-accepted .ensures) (c .if2 .taken))
 
 check-edges-requires : tie.Need-check-edges-requires
-check-edges-requires c κs =
-    let asked = c .before .before .before in
-    sized _
-    (ap (outside 1 mostVertices) (sym (asked .before .count .ensures)) ∙ accepted _ _ (asked .vertices-accepted .ensures) (c .before .before .if1 .left))
+check-edges-requires c κs = let rows = c .before .before in sized _ (accepted _ _ (rows .before .rows-accepted .ensures) (rows .if1 .left))
 
 returns-3 : tie.Need-returns-3
 unfolding slackCheck vertexCause slackCause
 returns-3 c =
-    let asked = c .before .before .before .before in
-    c .check-edges .ensures
-    ∙ sym (first-skips _ _ passed
-    (ap (outside 1 mostVertices) (sym (asked .before .count .ensures))
-    ∙ accepted _ _ (asked .vertices-accepted .ensures) (c .before .before .before .if1 .left))
-    ∙ first-skips _ _ passed (accepted _ _ (c .before .before .slack-accepted .ensures) (c .before .if2 .left)))
+    let slack = c .before in
+    let rows = slack .before .before in
+    test-accepted _ _ (rows .before .rows-accepted .ensures) (rows .if1 .left)
+    (test-accepted _ _ (slack .before .slack-accepted .ensures) (slack .if2 .left) (c .check-edges .ensures))
 
 pub check-slack-spec : {M : Type 1} → statement M
-check-slack-spec =
-    tie.close
-    (tie.spec
-    count-requires
-    vertices-accepted-requires
-    returns
-    slack-accepted-requires
-    returns-2
-    check-edges-requires
-    returns-3)
+check-slack-spec = tie.close (tie.spec (λ c. search needs) returns (λ c. search needs) returns-2 check-edges-requires returns-3)

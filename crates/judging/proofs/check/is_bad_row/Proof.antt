@@ -1,21 +1,9 @@
--- `judging::check::is_bad_row` meets its contract: the two halves of the test, one after the other.
+-- A row is bad by its own bit, or, where it lacks that, by a bit of n or above: the two halves of the test, in this order.
 use mathlib.Core.Path.{sym, _∙_}
 use Rattle.judging.specs.JudgeLaws.{own-bit, reaches}
 use borrow.Author.Needs.{needs}
 use Rattle.judging.proofs.check.is_bad_row.Statement.{statement}
 use Rattle.judging.proofs.check.is_bad_row.Tie as tie
-
-get-requires : tie.Need-get-requires
-get-requires c κs = search needs
-
-has-requires : tie.Need-has-requires
-has-requires c κs = search needs
-
-count-requires : tie.Need-count-requires
-count-requires c κs = search needs
-
-below-requires : tie.Need-below-requires
-below-requires c κs = search needs
 
 returns : tie.Need-returns
 returns c =
@@ -28,5 +16,4 @@ returns-2 c =
     (rw (tested .before .get .ensures, c .before .count .ensures) at (c .below .ensures))
 
 pub is-bad-row-spec : {M : Type 1} → statement M
-is-bad-row-spec =
-    tie.close (tie.spec get-requires has-requires count-requires below-requires returns returns-2)
+is-bad-row-spec = tie.close (tie.spec (λ c. search needs) (λ c. search needs) (λ c. search needs) (λ c. search needs) returns returns-2)

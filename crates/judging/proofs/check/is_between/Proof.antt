@@ -1,4 +1,4 @@
--- `judging::check::is_between` meets its contract.
+-- n is outside where it is below lo or above hi: below lo the first test fails, and from lo on the second decides.
 use mathlib.Core.Path.{_∙_}
 use borrow.Author.Tests.{lt-leb}
 use Rattle.judging.specs.JudgeLaws.{above-low, below-low}

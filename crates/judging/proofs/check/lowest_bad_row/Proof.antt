@@ -1,4 +1,4 @@
--- `judging::check::lowest_bad_row` meets its contract: no row passed is bad, and the first bad one ends the loop.
+-- No row passed is bad, and the first bad one ends the loop: so it is the lowest, or n where the loop comes to its end.
 use Prim.Native.Nat.{ℕ, _-_, _≤_, _<_}
 use native.Mathlib.Omega.{arith}
 use mathlib.Core.Path.{_≡_, sym, _∙_}
@@ -8,6 +8,7 @@ use lib.ListN.{length}
 use Rattle.sets.specs.Words.{masks}
 use Rattle.sets.specs.RangeLaws.{first-at}
 use Rattle.judging.specs.Refusal.{badRow, lowestRow}
+use borrow.Author.Needs.{needs}
 use Rattle.judging.proofs.check.lowest_bad_row.Statement.{statement}
 use Rattle.judging.proofs.check.lowest_bad_row.Tie as tie
 
@@ -20,9 +21,6 @@ abbrev μ-loop : tie.MeasureT-loop
 loop-holds : tie.Need-loop-holds Inv-loop μ-loop
 loop-holds c = (omega arith, below-none _)
 
-count-requires : tie.Need-count-requires Inv-loop μ-loop
-count-requires c κs = tt
-
 is-bad-row-requires : tie.Need-is-bad-row-requires Inv-loop μ-loop
 is-bad-row-requires c κs = (c .before .before .before .before .pre, omega arith)
 
@@ -31,12 +29,6 @@ unfolding lowestRow
 returns c =
     let passed = c .before .before .before .before .loop .inv in
     sym (first-at _ _ _ (passed .0) (passed .1) (λ _. sym (c .before .is-bad-row .ensures) ∙ c .if2 .taken))
-
-add-a : tie.Need-add-a Inv-loop μ-loop
-add-a c = omega arith
-
-loop-less : tie.Need-loop-less Inv-loop μ-loop
-loop-less c = omega arith
 
 loop-again : tie.Need-loop-again Inv-loop μ-loop
 loop-again c = (omega arith, below-more _ _ (c .before .before .before .before .loop .inv .1) (sym (c .before .is-bad-row .ensures) ∙ c .if2 .left))
@@ -49,13 +41,4 @@ pub lowest-bad-row-spec : {M : Type 1} → statement M
 lowest-bad-row-spec =
     tie.close
     (tie.spec
-    Inv-loop
-    μ-loop
-    loop-holds
-    count-requires
-    is-bad-row-requires
-    returns
-    add-a
-    loop-less
-    loop-again
-    returns-2)
+    Inv-loop μ-loop loop-holds (λ c. search needs) is-bad-row-requires returns (λ c. search needs) (λ c. search needs) loop-again returns-2)

@@ -1,4 +1,4 @@
--- `judging::check::lowest_one_way` meets its contract: no row passed has a one-way link, and in the present row each vertex passed is answered.
+-- No row passed has a one-way link, and in the present row each vertex passed has it as a neighbour. A vertex that lacks it ends both loops.
 use Prim.Native.Nat.{ℕ, _-_, _≤_, _<_}
 use native.Mathlib.Omega.{arith}
 use mathlib.Core.Path.{_≡_, sym, subst, _∙_}
@@ -13,6 +13,7 @@ use Rattle.sets.specs.RangeLaws.{first-at}
 use Rattle.sets.specs.WalkLaws.{Walked, walk-none, walk-next, walk-all, walk-falls, walk-member, walk-below, walk-goes-on, walk-over}
 use Rattle.judging.specs.Refusal.{oneWay, lowestRow}
 use Rattle.judging.specs.JudgeLaws.{one-way-found, one-way-none}
+use borrow.Author.Needs.{needs}
 use Rattle.judging.proofs.check.lowest_one_way.Statement.{statement}
 use Rattle.judging.proofs.check.lowest_one_way.Tie as tie
 
@@ -28,20 +29,11 @@ Inv-rows rows n a₀ a = (a ≤ length (masks rows)) × ((w : ℕ) → w < a →
 abbrev μ-rows : tie.MeasureT-rows
 μ-rows rows n a₀ a = length (masks rows) - a
 
-count-requires : tie.Need-count-requires Inv-loop μ-loop Inv-rows μ-rows
-count-requires c κs = tt
-
 rows-holds : tie.Need-rows-holds Inv-loop μ-loop Inv-rows μ-rows
 rows-holds c = (omega arith, below-none _)
 
-get-requires : tie.Need-get-requires Inv-loop μ-loop Inv-rows μ-rows
-get-requires c κs = omega arith
-
 loop-holds : tie.Need-loop-holds Inv-loop μ-loop Inv-rows μ-rows
 loop-holds c = subst (Walked _ _) (sym (c .get .ensures)) (walk-none _ _)
-
-is-empty-requires : tie.Need-is-empty-requires Inv-loop μ-loop Inv-rows μ-rows
-is-empty-requires c κs = tt
 
 lowest-requires : tie.Need-lowest-requires Inv-loop μ-loop Inv-rows μ-rows
 lowest-requires c κs = walk-goes-on _ _ (c .before .is-empty .ensures) (c .if1 .taken)
@@ -50,9 +42,6 @@ get-requires-2 : tie.Need-get-requires-2 Inv-loop μ-loop Inv-rows μ-rows
 get-requires-2 c κs =
     let start = c .before .before .before .before .before .before .before .before .before in
     walk-below _ _ _ _ (start .pre .low _ (omega arith)) (c .before .before .before .loop .inv .part) (c .lowest .ensures)
-
-has-requires : tie.Need-has-requires Inv-loop μ-loop Inv-rows μ-rows
-has-requires c κs = omega arith
 
 rest-requires : tie.Need-rest-requires Inv-loop μ-loop Inv-rows μ-rows
 rest-requires c κs = c .before .before .before .lowest .ensures
@@ -65,12 +54,6 @@ loop-again c =
     let found = c .before .before .before in
     walk-next _ _ _ _ _ (c .rest .ensures) (found .before .before .before .before .loop .inv)
     (rw (found .get2 .ensures) at (sym (c .before .before .has .ensures) ∙ not-false _ (c .before .if2 .left)))
-
-add-a : tie.Need-add-a Inv-loop μ-loop Inv-rows μ-rows
-add-a c = omega arith
-
-rows-less : tie.Need-rows-less Inv-loop μ-loop Inv-rows μ-rows
-rows-less c = omega arith
 
 rows-again : tie.Need-rows-again Inv-loop μ-loop Inv-rows μ-rows
 rows-again c = (
@@ -100,23 +83,6 @@ pub lowest-one-way-spec : {M : Type 1} → statement M
 lowest-one-way-spec =
     tie.close
     (tie.spec
-    Inv-loop
-    μ-loop
-    Inv-rows
-    μ-rows
-    count-requires
-    rows-holds
-    get-requires
-    loop-holds
-    is-empty-requires
-    lowest-requires
-    get-requires-2
-    has-requires
-    rest-requires
-    loop-less
-    loop-again
-    add-a
-    rows-less
-    rows-again
-    returns
+    Inv-loop μ-loop Inv-rows μ-rows (λ c. search needs) rows-holds (λ c. search needs) loop-holds (λ c. search needs) lowest-requires
+    get-requires-2 (λ c. search needs) rest-requires loop-less loop-again (λ c. search needs) (λ c. search needs) rows-again returns
     returns-2)

@@ -1,4 +1,4 @@
--- `trials::sheet::wipe` is safe and ends: each turn leaves fewer bytes.
+-- The loop ends, since each turn leaves fewer bytes, and the text keeps its length.
 use lib.ListN.{length}
 use Prim.Native.Nat.{_-_}
 use mathlib.Core.Path.{_≡_}
@@ -6,43 +6,10 @@ use borrow.Author.Needs.{needs}
 use Rattle.trials.proofs.sheet.wipe.Statement.{statement}
 use Rattle.trials.proofs.sheet.wipe.Tie as tie
 
-abbrev Inv-loop : tie.InvT-loop
-Inv-loop text₀ i₀ text i = length text ≡ length text₀
-
-abbrev μ-loop : tie.MeasureT-loop
-μ-loop text₀ i₀ text i = length text₀ - i
-
-loop-holds : tie.Need-loop-holds Inv-loop μ-loop
-loop-holds c = search needs
-
-slice-write-text : tie.Need-slice-write-text Inv-loop μ-loop
-slice-write-text c = search needs
-
-add-i : tie.Need-add-i Inv-loop μ-loop
-add-i c = search needs
-
-loop-less : tie.Need-loop-less Inv-loop μ-loop
-loop-less c = search needs
-
-loop-again : tie.Need-loop-again Inv-loop μ-loop
-loop-again c = search needs
-
-same-length : tie.Need-same-length Inv-loop μ-loop
-same-length c = search needs
-
-returns : tie.Need-returns Inv-loop μ-loop
-returns c = search needs
-
 pub wipe-spec : {M : Type 1} → statement M
 wipe-spec =
     tie.close
     (tie.spec
-    Inv-loop
-    μ-loop
-    loop-holds
-    slice-write-text
-    add-i
-    loop-less
-    loop-again
-    same-length
-    returns)
+    (λ text₀ i₀ text i. length text ≡ length text₀)
+    (λ text₀ i₀ text i. length text₀ - i)
+    (λ c. search needs) (λ c. search needs) (λ c. search needs) (λ c. search needs) (λ c. search needs) (λ c. search needs) (λ c. search needs))
