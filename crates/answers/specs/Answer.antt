@@ -4,7 +4,6 @@
 --   answerOf x room       the answer to the sheet x that was read, with room slots for the list; a text that is no sheet is refused as reading it is
 --   answerText t room     the bytes that are printed for the text t
 --   slotsLeft t slots     the slots at exit
---   Writes new old out r  r bytes, new, were written to the front of old, which leaves out
 --   Answers               the promise: the bytes written, their number, and the slots
 --   Room slots out        the longest answer fits: what the functions below the entry point rely on
 use Prim.Native.Nat.{ℕ, _≤_}
@@ -13,8 +12,8 @@ use mathlib.Core.List.{List}
 use lib.ListN.{length}
 use Rattle.judging.specs.Request.{Request}
 use Rattle.judging.specs.Refusal.{Reply, refused, answered, mostVertices}
-use Rattle.sheets.specs.Sheet.{Sheet, reading, over}
-use Rattle.answers.specs.Output.{replyText, listLength, refusalLength}
+use Rattle.sheets.specs.Sheet.{Sheet, reading}
+use Rattle.answers.specs.Output.{replyText, listLength, refusalLength, Writes}
 use Rattle.lists.specs.Listing.{listing}
 use Rattle.search.specs.Calls.{listReply, slotsAfter}
 
@@ -36,10 +35,6 @@ answerText t room = replyText (answerOf (reading t mostVertices) room)
 
 unfoldable pub slotsLeft : List ℕ → List ℕ → List ℕ
 slotsLeft t slots = slotsOf (reading t mostVertices) slots
-
-pub record Writes (new old out : List ℕ) (r : ℕ) : Type 0 where
-  pub count : r ≡ length new
-  pub text : out ≡ over new old
 
 -- the call that lists answered, and its answer was written
 pub record WritesList (g : List ℕ) (ask : Request) (before after old out : List ℕ) (r : ℕ) : Type 0 where

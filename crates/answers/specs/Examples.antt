@@ -8,7 +8,8 @@ use Rattle.sets.specs.Set.{bit, has, subset, members}
 use Rattle.sets.specs.Graph.{row}
 use Rattle.judging.specs.Graph.{adjacent, degree}
 use Rattle.judging.specs.Plex.{plex, maximal}
-use Rattle.judging.specs.Refusal.{firstOf, outside, vertexCause, slackCause, floorCause, badRow, oneWay, lowestRow, rowCause, edgeCause, graphCauses}
+use Rattle.judging.specs.Refusal.{firstOf, outside, vertexCause, slackCause, floorCause}
+use Rattle.judging.specs.Refusal.{badRow, oneWay, lowestRow, rowCause, edgeCause, graphCauses}
 use Rattle.judging.specs.Calls.{requestCheck}
 use Rattle.sheets.specs.Digits.{between, digitValue, isDigit, digitByte, digits, numberFrom, number}
 use Rattle.sheets.specs.Lines.{line, lines, isLine, field, rightLines, numbers}

@@ -1,16 +1,18 @@
 -- What the program prints (document 01, "Sheets"): a list of masks, or a refusal.
 --
---   decimals w x      the number x in w decimal digits, highest first
---   listText ms       m, the number of the masks ms, and then each mask: a line of 16 digits each
---   refusalText n v   R, the number n as two decimal digits, a blank, the value v as 16 digits, and byte 10
---   replyText r       the text of the reply r
+--   decimals w x          the number x in w decimal digits, highest first
+--   listText ms           m, the number of the masks ms, and then each mask: a line of 16 digits each
+--   refusalText n v       R, the number n as two decimal digits, a blank, the value v as 16 digits, and byte 10
+--   replyText r           the text of the reply r
+--   Writes new old out r  r bytes, new, were written to the front of old, which leaves out
 use Prim.Native.Nat.{ℕ, zero, suc, _+_, _*_, _/_, _%_}
+use mathlib.Core.Path.{_≡_}
 use mathlib.Core.List.{List, [], _∷_, _++_}
 use lib.ListN.{length}
 use Rattle.judging.specs.Refusal.{Reply, refused, answered}
 use Rattle.sheets.specs.Digits.{digits}
 use Rattle.sheets.specs.Lines.{line, lines}
-use Rattle.sheets.specs.Sheet.{rowDigits, rowLength}
+use Rattle.sheets.specs.Sheet.{rowDigits, rowLength, over}
 
 -- the byte of R
 abbrev pub letterR : ℕ
@@ -49,3 +51,7 @@ listLength m = (m + 1) * rowLength
 
 abbrev pub refusalLength : ℕ
 refusalLength = 1 + numberDigits + 1 + rowLength
+
+pub record Writes (new old out : List ℕ) (r : ℕ) : Type 0 where
+  pub count : r ≡ length new
+  pub text : out ≡ over new old

@@ -8,11 +8,13 @@ mod output;
 use judging::Request;
 use search::ListFound;
 use sheets::SheetRead;
+use sheets::lines;
 
 // Lists the maximal k-plexes of the graph into the slots, and writes the list, or why there is none, to the front of `out`.
 fn list_out(rows: &[u64], request: Request, slots: &mut [u64], out: &mut [u8]) -> usize
     requires { ⌜ Room (masks (now slots)) (now out) ⌝ }
-    ensures { λ r. ⌜ WritesList (masks (now (rows .entry))) (asked request) (masks (now (slots .entry))) (masks (now (slots .exit))) (now (out .entry)) (now (out .exit)) r ⌝ }
+    ensures { λ r. ⌜ WritesList (masks (now (rows .entry))) (asked request) (masks (now (slots .entry))) (masks (now (slots .exit)))
+        (now (out .entry)) (now (out .exit)) r ⌝ }
 {
     let found = search::list(rows, request, slots);
     match found {
@@ -30,7 +32,7 @@ const SLOTS: usize = 4096;
 pub const SLOT_WORDS: usize = SLOTS * sets::WORDS;
 
 // The length of the longest answer: a line for m, and one for each slot.
-pub const MOST_OUTPUT: usize = (SLOTS + 1) * output::LINE_LENGTH;
+pub const MOST_OUTPUT: usize = (SLOTS + 1) * lines::ROW_LENGTH;
 
 // Answers the text: reads it as a sheet, lists the maximal k-plexes into the slots, and writes what the program prints to the front of `out`.
 // Outcome: how many bytes that is; the bytes beyond keep their contents.

@@ -1,24 +1,17 @@
 // What is printed: lists and refusals, each written to the front of lent bytes.
 ghost use mathlib.Core.Path.{_≡_};
-ghost use mathlib.Core.List.{_++_};
-ghost use Prim.Native.Nat.{_+_, _*_, _%_, _≤_};
-ghost use lib.ListN.{length, drop};
+ghost use Prim.Native.Nat.{_+_, _%_, _≤_};
+ghost use lib.ListN.{length};
 ghost use Rattle.sets.specs.Words.{masks};
 ghost use Rattle.judging.specs.Calls.{numberOf, valueOf};
-ghost use Rattle.sheets.specs.Lines.{lines};
-ghost use Rattle.sheets.specs.Sheet.{rowDigits, rowLength};
-ghost use Rattle.answers.specs.Output.{figureZero, listText, refusalText, listLength, refusalLength};
-ghost use Rattle.answers.specs.Answer.{Writes};
+ghost use Rattle.answers.specs.Output.{figureZero, listText, refusalText, listLength, refusalLength, Writes};
 use judging::Refusal;
 use sheets::lines;
-
-// A digit for each four vertices that a mask can have, and the byte that ends the line.
-pub const LINE_LENGTH: usize = sets::WIDTH / 4 + 1;
 
 // R, the number, and a blank stand before the value's line.
 const VALUE_AT: usize = 4;
 
-const REFUSAL_LENGTH: usize = VALUE_AT + LINE_LENGTH;
+const REFUSAL_LENGTH: usize = VALUE_AT + lines::ROW_LENGTH;
 
 // The last decimal digit of x.
 fn decimal(x: usize) -> u8
@@ -27,30 +20,15 @@ fn decimal(x: usize) -> u8
     (x % 10 + 48) as u8
 }
 
-// Writes each mask on a line.
-fn write_masks(list: &[u64], out: &mut [u8])
-    requires { ⌜ length (masks (now list)) * rowLength ≤ length (now out) ⌝ }
-    ensures { λ _. ⌜ now (out .exit) ≡ lines rowDigits (masks (now (list .entry))) ++ drop (length (masks (now (list .entry))) * rowLength) (now (out .entry)) ⌝ }
-{
-    let m = sets::count(list);
-    let mut i = 0;
-    while i < m {
-        let at = i * LINE_LENGTH;
-        let end = at + LINE_LENGTH;
-        lines::write_row(&mut out[at..end], sets::get(list, i));
-        i += 1;
-    }
-}
-
 // Writes the number of the masks on a line, and then each mask. Gives the length of what is written.
 pub fn write_list(list: &[u64], out: &mut [u8]) -> usize
     requires { ⌜ listLength (length (masks (now list))) ≤ length (now out) ⌝ }
     ensures { λ r. ⌜ Writes (listText (masks (now (list .entry)))) (now (out .entry)) (now (out .exit)) r ⌝ }
 {
     let m = sets::count(list);
-    lines::write_line(&mut out[..LINE_LENGTH], m as u64);
-    write_masks(list, &mut out[LINE_LENGTH..]);
-    (m + 1) * LINE_LENGTH
+    lines::write_line(&mut out[..lines::ROW_LENGTH], m as u64);
+    lines::write_rows(list, &mut out[lines::ROW_LENGTH..]);
+    (m + 1) * lines::ROW_LENGTH
 }
 
 // Writes R, the refusal's number, a blank and its value. Gives the length of what is written.

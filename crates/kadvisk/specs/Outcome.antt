@@ -3,7 +3,7 @@
 --   outcome found reply     the number, the value and what was found; of a refusal nothing is found, and that is 0
 --   yesNo, itself, nothing  what is found as a number: 1 for yes and 0 for no; a set's mask or a bound; 0 where the value says all
 --   readOutcome reply       the same of a sheet that is read, with its n, k and q; of a refusal these are 0
---   Listed, Read, Wrote     the outcome and the lent buffer at exit, as the promise of a call
+--   ListOutcome, ..         the outcome and the lent buffer at exit, as the promise of the call that lists, that reads a sheet, or that writes one
 use Prim.Native.Nat.{ℕ}
 use mathlib.Core.Path.{_≡_}
 use mathlib.Core.Bool.{Bool, cond}
@@ -41,14 +41,14 @@ readOutcome r =
 
 -- ---- the calls that write to a lent buffer
 
-pub record Listed (g : List ℕ) (ask : Request) (before after : List ℕ) (r : Outcome) : Type 0 where
+pub record ListOutcome (g : List ℕ) (ask : Request) (before after : List ℕ) (r : Outcome) : Type 0 where
   pub answer : r ≡ outcome nothing (listReply g ask (length before))
   pub slots : after ≡ slotsAfter g ask before
 
-pub record Read (text before after : List ℕ) (r : ReadOutcome) : Type 0 where
+pub record ReadSheetOutcome (text before after : List ℕ) (r : ReadOutcome) : Type 0 where
   pub answer : r ≡ readOutcome (headingOf (reading text (length before)))
   pub rows : after ≡ rowsAfter (reading text (length before)) before
 
-pub record Wrote (g : List ℕ) (ask : Request) (before after : List ℕ) (r : Outcome) : Type 0 where
+pub record WriteSheetOutcome (g : List ℕ) (ask : Request) (before after : List ℕ) (r : Outcome) : Type 0 where
   pub answer : r ≡ outcome nothing (writing g ask (length before))
   pub text : after ≡ textAfter (writing g ask (length before)) (sheetText g ask) before

@@ -6,7 +6,7 @@ ghost use Rattle.judging.specs.Request.{request};
 ghost use Rattle.judging.specs.Calls.{plexReply, maximalReply};
 ghost use Rattle.bounds.specs.Calls.{coreReply, reachReply};
 ghost use Rattle.bounds.specs.BoundCalls.{firstBoundReply, secondBoundReply};
-ghost use Rattle.kadvisk.specs.Outcome.{outcome, yesNo, itself, Listed, Read, Wrote};
+ghost use Rattle.kadvisk.specs.Outcome.{outcome, yesNo, itself, ListOutcome, ReadSheetOutcome, WriteSheetOutcome};
 
 mod answer;
 
@@ -107,7 +107,7 @@ pub extern "C" fn kadvisk_list(
     floor: usize,
     slots: &mut [u64],
 ) -> Outcome
-    ensures { λ r. ⌜ Listed (masks (now (rows .entry))) (request slack floor) (masks (now (slots .entry))) (masks (now (slots .exit))) r ⌝ }
+    ensures { λ r. ⌜ ListOutcome (masks (now (rows .entry))) (request slack floor) (masks (now (slots .entry))) (masks (now (slots .exit))) r ⌝ }
 {
     let found = search::list(rows, Request { slack, floor }, slots);
     answer::listed(found)
@@ -137,7 +137,7 @@ pub extern "C" fn kadvisk_list_with(
     flags: u64,
     slots: &mut [u64],
 ) -> Outcome
-    ensures { λ r. ⌜ Listed (masks (now (rows .entry))) (request slack floor) (masks (now (slots .entry))) (masks (now (slots .exit))) r ⌝ }
+    ensures { λ r. ⌜ ListOutcome (masks (now (rows .entry))) (request slack floor) (masks (now (slots .entry))) (masks (now (slots .exit))) r ⌝ }
 {
     let found = search::list_with(rows, Request { slack, floor }, cuts(flags), slots);
     answer::listed(found)
@@ -147,7 +147,7 @@ pub extern "C" fn kadvisk_list_with(
 // Refusals: 8 at line 1, 1, 2, 3, 8, 4, 5, 9, in this order; each leaves every row as it was.
 #[no_mangle]
 pub extern "C" fn kadvisk_read_sheet(text: &[u8], rows: &mut [u64]) -> ReadOutcome
-    ensures { λ r. ⌜ Read (now (text .entry)) (masks (now (rows .entry))) (masks (now (rows .exit))) r ⌝ }
+    ensures { λ r. ⌜ ReadSheetOutcome (now (text .entry)) (masks (now (rows .entry))) (masks (now (rows .exit))) r ⌝ }
 {
     let read = sheets::read_sheet(text, rows);
     answer::read(read)
@@ -162,7 +162,7 @@ pub extern "C" fn kadvisk_write_sheet(
     floor: usize,
     text: &mut [u8],
 ) -> Outcome
-    ensures { λ r. ⌜ Wrote (masks (now (rows .entry))) (request slack floor) (now (text .entry)) (now (text .exit)) r ⌝ }
+    ensures { λ r. ⌜ WriteSheetOutcome (masks (now (rows .entry))) (request slack floor) (now (text .entry)) (now (text .exit)) r ⌝ }
 {
     let written = sheets::write_sheet(rows, Request { slack, floor }, text);
     answer::written(written)

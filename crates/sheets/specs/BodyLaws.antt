@@ -1,31 +1,28 @@
 -- The lines below line 1 as the code judges them and stores their rows, and the definitions of them.
-use Prim.Native.Nat.{ℕ, _+_, _*_, _≤_, _<_}
+use Prim.Native.Nat.{ℕ, _+_, _-_, _*_, _≤_, _<_}
 use native.Mathlib.Omega.{arith}
 use mathlib.Core.Path.{_≡_, sym, ap, ap₂, _∙_, subst}
 use mathlib.Core.Bool.{Bool, _||_}
 use mathlib.Core.List.{List, _++_}
-use lib.Dec.{ltb}
+use lib.Dec.{T, ltb}
 use borrow.Author.Tests.{lt-ltb, le-ltb}
-use lib.ListN.{length, take, length-append, length-replicate}
+use lib.ListN.{length, take, drop, length-append, length-drop, length-replicate}
 use lib.Seq.{take-at, length-take-le}
 use Rattle.sets.specs.Words.{perSet, width, masks}
 use Rattle.sets.specs.Words.Groups.{blank}
 use Rattle.sets.specs.Words.Operations.{count-masks, take-masks, blank-masks}
 use Rattle.judging.specs.Refusal.{refused, firstOf, graphCauses}
-use Rattle.judging.specs.Calls.{passed, checkedReply}
+use Rattle.judging.specs.Calls.{passed}
 use Rattle.judging.specs.Setting.{Sized}
-use Rattle.judging.specs.RefusalLaws.{first-holds, first-skips, passed-head}
-use Rattle.judging.specs.CallLaws.{none-holds}
-use Rattle.judging.specs.declared.Checked.{Checked}
-use Rattle.judging.specs.declared.Checked.the-variants.{Passed}
-use Rattle.sheets.specs.Lines.{rightLines, numbers}
+use Rattle.judging.specs.RefusalLaws.{first-holds, first-skips}
+use Rattle.sheets.specs.Lines.{isLine, rightLines, numbers}
 use Rattle.sheets.specs.Sheet.{rowDigits, rowLength, rowsCause, bodyCauses}
-use Rattle.sheets.specs.Setting.{RowLines}
-use Rattle.sheets.specs.LineLaws.{right-most}
-use Rattle.sheets.specs.SheetLaws.{rows-clear, clear-rows}
+use Rattle.sheets.specs.Setting.{Readable, RowLines}
+use Rattle.sheets.specs.LineLaws.{right-most, right-fits, right-digits, each-right, part-same}
+use Rattle.sheets.specs.SheetLaws.{rows-clear, clear-rows, passed-rows}
 
 -- a is how many rows the code found right
-module _ (n a : ℕ) (t : List ℕ) (e : a ≡ rightLines rowDigits n t) where
+module _ (n : ℕ) (t : List ℕ) {a : ℕ} (e : a ≡ rightLines rowDigits n t) where
   pub line-refused : a < n → refused 8 (a + 2) ≡ firstOf (bodyCauses n t) passed
   unfolding bodyCauses rowsCause
   line-refused l =
@@ -43,17 +40,32 @@ module _ (n a : ℕ) (t : List ℕ) (e : a ≡ rightLines rowDigits n t) where
       ∙ sym (first-holds (rowsCause n t) (graphCauses (numbers rowDigits n t)) passed
       (ap₂ _||_ (le-ltb (rightLines rowDigits n t) n (omega (arith, all-right l))) (lt-ltb (n * rowLength) (length t) h)))
 
-  pub lines-passed : n ≤ a → length t ≤ n * rowLength → firstOf (graphCauses (numbers rowDigits n t)) passed ≡ firstOf (bodyCauses n t) passed
+  pub lines-accepted : n ≤ a → length t ≤ n * rowLength → firstOf (graphCauses (numbers rowDigits n t)) passed ≡ firstOf (bodyCauses n t) passed
   unfolding bodyCauses
-  lines-passed l h = sym (first-skips (rowsCause n t) (graphCauses (numbers rowDigits n t)) passed (clear-rows n t (all-right l) h))
+  lines-accepted l h = sym (first-skips (rowsCause n t) (graphCauses (numbers rowDigits n t)) passed (clear-rows n t (all-right l) h))
 
 -- a body that passed has right lines
-pub passed-right : (n : ℕ) (t : List ℕ) (r : Checked) → checkedReply r ≡ firstOf (bodyCauses n t) passed → r ≡ Passed → rightLines rowDigits n t ≡ n
-unfolding bodyCauses
-passed-right n t r e p = rows-clear n t (passed-head (rowsCause n t) (graphCauses (numbers rowDigits n t)) (none-holds (bodyCauses n t) r e p)) .0
+pub passed-right : (n : ℕ) (t : List ℕ) → firstOf (bodyCauses n t) passed ≡ passed → rightLines rowDigits n t ≡ n
+passed-right n t e = rows-clear n t (passed-rows n t e) .0
+
+-- the digits of row a, as the code takes them
+module _ {n : ℕ} {t : List ℕ} (h : RowLines n t) (a : ℕ) (l : a < n) where
+  row-right : T (isLine rowDigits (drop (a * rowLength) t))
+  row-right = each-right rowDigits n a t (h .right) l
+
+  pub row-fits : a * rowLength + rowDigits < length t
+  row-fits = omega (arith, right-fits rowDigits (drop (a * rowLength) t) row-right, length-drop (a * rowLength) t)
+
+  pub row-readable : Readable (take ((a * rowLength + rowDigits) - a * rowLength) (drop (a * rowLength) t))
+  row-readable =
+      subst (λ (u : List ℕ). Readable u) (sym (part-same (a * rowLength) rowDigits (drop (a * rowLength) t)))
+      (record {
+        digit = right-digits rowDigits (drop (a * rowLength) t) row-right;
+        short = omega (arith, length-take-le rowDigits (drop (a * rowLength) t) (omega (arith, row-fits, length-drop (a * rowLength) t)));
+      })
 
 -- n sets at the front of longer words, which end at the word `end`
-module _ (n end : ℕ) (at : end ≡ n * perSet) where
+module _ (n : ℕ) {end : ℕ} (at : end ≡ n * perSet) where
   pub taken-rows : (ws : List ℕ) → n ≤ length (masks ws) → length (masks (take end ws)) ≡ n
   taken-rows ws l = ap (λ (m : ℕ). length (masks (take m ws))) at ∙ ap length (take-masks n ws l) ∙ length-take-le n (masks ws) l
 
@@ -70,8 +82,8 @@ module _ (n end : ℕ) (at : end ≡ n * perSet) where
     pub front-length : end ≡ length (take end (xs ++ ys))
     front-length = sym (ap length front-rows ∙ e)
 
-    pub front-judged : (g : List ℕ) → masks xs ≡ g → firstOf (graphCauses (masks (take end (xs ++ ys)))) passed ≡ firstOf (graphCauses g) passed
-    front-judged g h = ap (λ (ws : List ℕ). firstOf (graphCauses (masks ws)) passed) front-rows ∙ ap (λ (m : List ℕ). firstOf (graphCauses m) passed) h
+    pub front-judged : {g : List ℕ} → masks xs ≡ g → firstOf (graphCauses (masks (take end (xs ++ ys)))) passed ≡ firstOf (graphCauses g) passed
+    front-judged h = ap (λ (ms : List ℕ). firstOf (graphCauses ms) passed) (ap masks front-rows ∙ h)
 
     pub front-sized : 1 ≤ n → n ≤ width → Sized (masks (take end (xs ++ ys)))
     front-sized l h =
@@ -79,5 +91,5 @@ module _ (n end : ℕ) (at : end ≡ n * perSet) where
         record { some = omega arith; most = omega arith }
 
 -- a blank table has a row for each vertex
-pub table-rows : (n : ℕ) → n ≤ width → n ≤ length (masks (blank (width * perSet)))
-table-rows n l = omega (arith, ap length (blank-masks width), length-replicate {A = ℕ} width 0)
+pub table-fits : (n : ℕ) → n ≤ width → n ≤ length (masks (blank (width * perSet)))
+table-fits n l = omega (arith, ap length (blank-masks width), length-replicate {A = ℕ} width 0)

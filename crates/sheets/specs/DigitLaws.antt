@@ -1,20 +1,23 @@
--- Laws of digits: a digit and its byte are inverse, and so are a number and its digits, whatever the number of digits.
+-- Laws of digits: a digit and its byte are inverse, and so are a number and its digits, whatever the number of digits. The records at the end say what the
+-- loops over digits know at each turn.
 use Prim.Native.Nat.{ℕ, zero, suc, _+_, _-_, _*_, _/_, _%_, _^_, _≤_, _<_}
-use native.Mathlib.Nat.{lt-of-lt-of-le, pow-le-pow-right, le-refl, not-suc-le-zero, le-of-suc-le-suc, zero-lt-suc, pow-suc, add-zero, zero-add, add-suc, suc-add}
+use native.Mathlib.Nat.{lt-of-lt-of-le, pow-le-pow-right, le-refl, not-suc-le-zero, le-of-suc-le-suc, zero-lt-suc}
+use native.Mathlib.Nat.{pow-suc, add-zero, zero-add, add-suc, suc-add}
 use native.Mathlib.Omega.{arith}
 use native.Mathlib.Numerals.{add-one}
 use native.Mathlib.Decide.{decLt, decLe}
-use mathlib.Core.Path.{_≡_, refl, sym, ap, ap₂, _∙_}
+use mathlib.Core.Path.{_≡_, refl, sym, ap, ap₂, _∙_, subst}
 use mathlib.Core.Bool.{Bool, true, false, _&&_, cond}
 use mathlib.Core.List.{List, [], _∷_, _++_, append-assoc, append-nil}
-use lib.Dec.{T, leb, ltb, ltb→lt, lt→ltb}
+use lib.Dec.{T, leb, ltb→lt, lt→ltb}
 use borrow.Author.Tests.{le-leb, lt-leb, lt-ltb, le-ltb}
 use lib.Arith.{digits-div, digits-mod, lt-one, le-zero}
-use lib.ListN.{length, getD, drop, set, length-append, drop-of-length-le}
-use lib.Seq.{drop-cons, getD-set-same, drop-set-lt, drop-length, lt-length-set}
+use lib.ListN.{length, getD, take, drop, set, length-append, length-set, take-append-drop, drop-of-length-le}
+use lib.Seq.{drop-cons, take-add, take-take, getD-set-same, drop-set-lt, drop-length, lt-length-set}
 use Rattle.sets.specs.Ranges.{all}
 use Rattle.sets.specs.RangeLaws.{and-left, and-right, both}
-use Rattle.sheets.specs.Digits.{noDigit, wordDigits, between, digitValue, isDigit, digitByte, digits, numberFrom, number}
+use Rattle.sheets.specs.Digits.{noDigit, between, digitValue, isDigit, digitByte, digits, numberFrom, number}
+use Rattle.sheets.specs.Setting.{Readable}
 
 -- ---- one digit
 
@@ -72,28 +75,20 @@ byte-letter d h = ap (λ (x : Bool). cond x (d + 48) (d + 55)) (le-ltb d 10 h)
 
 -- the byte of a digit has its value, and a byte that is a digit is the byte of its value
 pub value-byte : (d : ℕ) → d < noDigit → digitValue (digitByte d) ≡ d
-unfolding digitByte
 value-byte d h = go (decLt d 10)
   where
-    go : Dec (d < 10) → digitValue (cond (ltb d 10) (d + 48) (d + 55)) ≡ d
-    go (yes l) = ap (λ (x : Bool). digitValue (cond x (d + 48) (d + 55))) (lt-ltb d 10 l) ∙ omega (arith, value-figure (d + 48) (omega arith) (omega arith))
-    go (no nl) = ap (λ (x : Bool). digitValue (cond x (d + 48) (d + 55))) (le-ltb d 10 (omega arith)) ∙ omega (arith, value-letter (d + 55) (omega arith) (omega arith))
+    go : Dec (d < 10) → digitValue (digitByte d) ≡ d
+    go (yes l) = ap digitValue (byte-figure d l) ∙ omega (arith, value-figure (d + 48) (omega arith) (omega arith))
+    go (no nl) = ap digitValue (byte-letter d (omega arith)) ∙ omega (arith, value-letter (d + 55) (omega arith) (omega arith))
 
 pub byte-value : (b : ℕ) → T (isDigit b) → digitByte (digitValue b) ≡ b
-unfolding digitByte
 byte-value b t = go (decLt b 48) (decLe b 57) (decLt b 65) (decLe b 70)
   where
-    small : (v : ℕ) → digitValue b ≡ v → v < 10 → cond (ltb (digitValue b) 10) (digitValue b + 48) (digitValue b + 55) ≡ v + 48
-    small v e h = ap (λ (x : ℕ). cond (ltb x 10) (x + 48) (x + 55)) e ∙ ap (λ (x : Bool). cond x (v + 48) (v + 55)) (lt-ltb v 10 h)
-
-    large : (v : ℕ) → digitValue b ≡ v → 10 ≤ v → cond (ltb (digitValue b) 10) (digitValue b + 48) (digitValue b + 55) ≡ v + 55
-    large v e h = ap (λ (x : ℕ). cond (ltb x 10) (x + 48) (x + 55)) e ∙ ap (λ (x : Bool). cond x (v + 48) (v + 55)) (le-ltb v 10 h)
-
-    go : Dec (b < 48) → Dec (b ≤ 57) → Dec (b < 65) → Dec (b ≤ 70) → cond (ltb (digitValue b) 10) (digitValue b + 48) (digitValue b + 55) ≡ b
+    go : Dec (b < 48) → Dec (b ≤ 57) → Dec (b < 65) → Dec (b ≤ 70) → digitByte (digitValue b) ≡ b
     go (yes p) q r s = absurd (omega (arith, value-below b p, digit-below b t))
-    go (no np) (yes q) r s = omega (arith, small (b - 48) (value-figure b (omega arith) q) (omega arith))
+    go (no np) (yes q) r s = ap digitByte (value-figure b (omega arith) q) ∙ omega (arith, byte-figure (b - 48) (omega arith))
     go (no np) (no nq) (yes r) s = absurd (omega (arith, value-amid b (omega arith) r, digit-below b t))
-    go (no np) (no nq) (no nr) (yes s) = omega (arith, large (b - 55) (value-letter b (omega arith) s) (omega arith))
+    go (no np) (no nq) (no nr) (yes s) = ap digitByte (value-letter b (omega arith) s) ∙ omega (arith, byte-letter (b - 55) (omega arith))
     go (no np) (no nq) (no nr) (no ns) = absurd (omega (arith, value-above b (omega arith), digit-below b t))
 
 -- ---- digits in a list
@@ -113,10 +108,26 @@ unfolding all
 all-back p [] ys t = t
 all-back p (x ∷ xs) ys t = all-back p xs ys (and-right (p x) (all p (xs ++ ys)) t)
 
-pub length-digits : (w x : ℕ) → length (digits w x) ≡ w
+pub all-part : (p : ℕ → Bool) (at w m : ℕ) (t : List ℕ) → at + w ≤ m → T (all p (take m t)) → T (all p (take w (drop at t)))
+all-part p at w m t l d =
+    let whole = subst (λ (u : List ℕ). T (all p u)) (sym (take-append-drop (at + w) (take m t))) d in
+    let front = all-front p (take (at + w) (take m t)) (drop (at + w) (take m t)) whole in
+    all-back p (take at t) (take w (drop at t)) (subst (λ (u : List ℕ). T (all p u)) (take-take (at + w) m t l ∙ take-add at w t) front)
+
+pub all-at : (p : ℕ → Bool) (t : List ℕ) (i : ℕ) → T (all p t) → i < length t → T (p (getD t i 0))
+unfolding all
+all-at p [] i s l = absurd (not-suc-le-zero l)
+all-at p (x ∷ t) zero s l = and-left (p x) (all p t) s
+all-at p (x ∷ t) (suc i) s l = all-at p t i (and-right (p x) (all p t) s) (le-of-suc-le-suc l)
+
+all-next : (p : ℕ → Bool) (t : List ℕ) (i : ℕ) → i < length t → all p (drop i t) ≡ (p (getD t i 0) && all p (drop (i + 1) t))
+unfolding all
+all-next p t i l = ap (all p) (drop-cons t i 0 l) ∙ ap (λ (n : ℕ). p (getD t i 0) && all p (drop n t)) (sym (add-one i))
+
+pub digits-length : (w x : ℕ) → length (digits w x) ≡ w
 unfolding digits
-length-digits zero x = refl
-length-digits (suc w) x = omega (arith, length-append (digits w (x / 16)) (digitByte (x % 16) ∷ []), length-digits w (x / 16))
+digits-length zero x = refl
+digits-length (suc w) x = omega (arith, length-append (digits w (x / 16)) (digitByte (x % 16) ∷ []), digits-length w (x / 16))
 
 pub all-digits : (w x : ℕ) → T (all isDigit (digits w x))
 unfolding digits all
@@ -157,66 +168,104 @@ pub digits-number : (bs : List ℕ) → T (all isDigit bs) → digits (length bs
 unfolding number digits
 digits-number bs t = ap (λ (n : ℕ). digits n (numberFrom 0 bs)) (sym (zero-add (length bs))) ∙ digits-from 0 0 bs t
 
--- one digit more
-pub digit-more : (i x b : ℕ) → x < 16 ^ i → T (isDigit b) → x * 16 + digitValue b < 16 ^ suc i
-digit-more i x b h t = omega (arith, digit-below b t, pow-suc 16 i)
+-- ---- are the bytes digits? those before i are
 
--- ---- walks through digits, one a turn
+pub record Passing (t : List ℕ) (i : ℕ) : Type 0 where
+  pub upto : i ≤ length t
+  pub rest : all isDigit t ≡ all isDigit (drop i t)
 
-all-next : (p : ℕ → Bool) (t : List ℕ) (i : ℕ) → i < length t → all p (drop i t) ≡ (p (getD t i 0) && all p (drop (i + 1) t))
-unfolding all
-all-next p t i l = ap (all p) (drop-cons t i 0 l) ∙ ap (λ (n : ℕ). p (getD t i 0) && all p (drop n t)) (sym (add-one i))
+pub passing-none : {t : List ℕ} → Passing t 0
+passing-none = record { upto = omega arith; rest = refl }
 
-pub all-none : (p : ℕ → Bool) (t : List ℕ) (i : ℕ) → length t ≤ i → all p (drop i t) ≡ true
-unfolding all
-all-none p t i l = ap (all p) (drop-of-length-le t l)
+module _ {t : List ℕ} {i : ℕ} (h : Passing t i) where
+  passing-by : (b : Bool) → i < length t → isDigit (getD t i 0) ≡ b → all isDigit t ≡ (b && all isDigit (drop (i + 1) t))
+  passing-by b l e = h .rest ∙ all-next isDigit t i l ∙ ap (λ (x : Bool). x && all isDigit (drop (i + 1) t)) e
 
-pub all-at : (p : ℕ → Bool) (t : List ℕ) (i : ℕ) → T (all p t) → i < length t → T (p (getD t i 0))
-unfolding all
-all-at p [] i s l = absurd (not-suc-le-zero l)
-all-at p (x ∷ t) zero s l = and-left (p x) (all p t) s
-all-at p (x ∷ t) (suc i) s l = all-at p t i (and-right (p x) (all p t) s) (le-of-suc-le-suc l)
+  pub passing-more : i < length t → digitValue (getD t i 0) < noDigit → Passing t (i + 1)
+  unfolding isDigit
+  passing-more l d = record { upto = omega arith; rest = passing-by true l (lt-ltb (digitValue (getD t i 0)) noDigit d) }
 
-pub digits-pass : (t : List ℕ) (i : ℕ) → i < length t → digitValue (getD t i 0) < noDigit → all isDigit (drop i t) ≡ all isDigit (drop (i + 1) t)
-unfolding isDigit
-digits-pass t i l h = all-next isDigit t i l ∙ ap (λ (b : Bool). b && all isDigit (drop (i + 1) t)) (lt-ltb (digitValue (getD t i 0)) noDigit h)
+  pub passing-stop : i < length t → noDigit ≤ digitValue (getD t i 0) → false ≡ all isDigit t
+  unfolding isDigit
+  passing-stop l d = sym (passing-by false l (le-ltb (digitValue (getD t i 0)) noDigit d))
 
-pub digits-stop : (t : List ℕ) (i : ℕ) → i < length t → noDigit ≤ digitValue (getD t i 0) → all isDigit (drop i t) ≡ false
-unfolding isDigit
-digits-stop t i l h = all-next isDigit t i l ∙ ap (λ (b : Bool). b && all isDigit (drop (i + 1) t)) (le-ltb (digitValue (getD t i 0)) noDigit h)
+  pub passing-all : length t ≤ i → true ≡ all isDigit t
+  unfolding all
+  passing-all l = sym (h .rest ∙ ap (all isDigit) (drop-of-length-le t l))
 
-pub number-next : (x : ℕ) (t : List ℕ) (i : ℕ) → i < length t → numberFrom x (drop i t) ≡ numberFrom (x * 16 + digitValue (getD t i 0)) (drop (i + 1) t)
+-- ---- the number that the digits are: x is that of the first i
+
+pub record Numbering (t : List ℕ) (i x : ℕ) : Type 0 where
+  pub upto : i ≤ length t
+  pub low : x < 16 ^ i
+  pub rest : number t ≡ numberFrom x (drop i t)
+
+pub numbering-none : {t : List ℕ} → Numbering t 0 0
+unfolding number
+numbering-none = record { upto = omega arith; low = omega arith; rest = refl }
+
+pub numbering-all : {t : List ℕ} {i x : ℕ} → Numbering t i x → length t ≤ i → x ≡ number t
 unfolding numberFrom
-number-next x t i l =
-    ap (numberFrom x) (drop-cons t i 0 l) ∙ ap (λ (n : ℕ). numberFrom (x * 16 + digitValue (getD t i 0)) (drop n t)) (sym (add-one i))
+numbering-all {t} {i} {x} h l = sym (h .rest ∙ ap (numberFrom x) (drop-of-length-le t l))
 
-pub number-end : (x : ℕ) (t : List ℕ) (i : ℕ) → length t ≤ i → numberFrom x (drop i t) ≡ x
-unfolding numberFrom
-number-end x t i l = ap (numberFrom x) (drop-of-length-le t l)
+module _ {t : List ℕ} {i x : ℕ} (r : Readable t) (h : Numbering t i x) (l : i < length t) where
+  pub digit-low : digitValue (getD t i 0) < noDigit
+  digit-low = digit-below (getD t i 0) (all-at isDigit t i (r .digit) l)
 
--- a number that has room for one digit more in a word
-pub digit-room : (i x : ℕ) → x < 16 ^ i → i < wordDigits → x < 16 ^ 15
-digit-room i x h l = lt-of-lt-of-le h (pow-le-pow-right (zero-lt-suc 15) {i = i} {j = 15} (omega arith))
+  -- a word has room for one digit more
+  pub numbering-fits : x < 16 ^ 15
+  numbering-fits = lt-of-lt-of-le (h .low) (pow-le-pow-right (zero-lt-suc 15) {i = i} {j = 15} (omega (arith, r .short)))
+
+  pub numbering-more : {d : ℕ} → d ≡ digitValue (getD t i 0) → Numbering t (i + 1) (x * 16 + d)
+  unfolding numberFrom
+  numbering-more {d} e =
+      record {
+        upto = omega arith;
+        low = subst (λ (n : ℕ). x * 16 + d < 16 ^ n) (sym (add-one i)) (omega (arith, h .low, digit-low, pow-suc 16 i));
+        rest =
+            h .rest ∙ ap (numberFrom x) (drop-cons t i 0 l)
+            ∙ ap₂ (λ (y n : ℕ). numberFrom (x * 16 + y) (drop n t)) (sym e) (sym (add-one i));
+      }
+
+-- ---- digits written from the last to the first: those of high are still to be written, before position left
+
+pub record Filling (x : ℕ) (t u : List ℕ) (left high : ℕ) : Type 0 where
+  pub long : length u ≡ length t
+  pub upto : left ≤ length t
+  pub text : digits left high ++ drop left u ≡ digits (length t) x
+
+pub filling-none : {x : ℕ} {t : List ℕ} → Filling x t t (length t) x
+filling-none {x} {t} =
+    record {
+      long = refl;
+      upto = le-refl (length t);
+      text = ap (λ (u : List ℕ). digits (length t) x ++ u) (drop-length t) ∙ append-nil (digits (length t) x);
+    }
 
 -- the lowest digit goes to the last place that is left
-store-last : (l x : ℕ) (t : List ℕ) → l < length t → digits (suc l) x ++ drop (suc l) t ≡ digits l (x / 16) ++ drop l (set t l (digitByte (x % 16)))
+digit-stored : (l x : ℕ) (t : List ℕ) → l < length t → digits (suc l) x ++ drop (suc l) t ≡ digits l (x / 16) ++ drop l (set t l (digitByte (x % 16)))
 unfolding digits
-store-last l x t h =
+digit-stored l x t h =
+    let b = digitByte (x % 16) in
     append-assoc (digits l (x / 16)) (digitByte (x % 16) ∷ []) (drop (suc l) t)
     ∙ ap (λ (u : List ℕ). digits l (x / 16) ++ u)
-    (ap₂ _∷_ (sym (getD-set-same t l (digitByte (x % 16)) 0 h)) (sym (drop-set-lt (suc l) t l (digitByte (x % 16)) (le-refl (suc l))))
-    ∙ sym (drop-cons (set t l (digitByte (x % 16))) l 0 (lt-length-set t l (digitByte (x % 16)) h)))
+    (ap₂ _∷_ (sym (getD-set-same t l b 0 h)) (sym (drop-set-lt (suc l) t l b (le-refl (suc l))))
+    ∙ sym (drop-cons (set t l b) l 0 (lt-length-set t l b h)))
 
-pub digits-store : (left x b : ℕ) (t : List ℕ) → 0 < left → left ≤ length t → b ≡ digitByte (x % 16)
-    → digits left x ++ drop left t ≡ digits (left - 1) (x / 16) ++ drop (left - 1) (set t (left - 1) b)
-digits-store left x b t p h e =
-    let last : left ≡ suc (left - 1) = omega arith in
-    ap (λ (n : ℕ). digits n x ++ drop n t) last ∙ store-last (left - 1) x t (omega arith)
-    ∙ ap (λ (y : ℕ). digits (left - 1) (x / 16) ++ drop (left - 1) (set t (left - 1) y)) (sym e)
+module _ {x : ℕ} {t u : List ℕ} {left high : ℕ} (h : Filling x t u left high) where
+  pub filling-more : {b : ℕ} → 0 < left → b ≡ digitByte (high % 16) → Filling x t (set u (left - 1) b) (left - 1) (high / 16)
+  filling-more {b} p e =
+      let last : left ≡ suc (left - 1) = omega arith in
+      record {
+        long = length-set u (left - 1) b ∙ h .long;
+        upto = omega arith;
+        text =
+            ap (λ (y : ℕ). digits (left - 1) (high / 16) ++ drop (left - 1) (set u (left - 1) y)) e
+            ∙ sym (digit-stored (left - 1) high u (omega arith))
+            ∙ sym (ap (λ (n : ℕ). digits n high ++ drop n u) last)
+            ∙ h .text;
+      }
 
-pub digits-start : (x : ℕ) (t : List ℕ) → digits (length t) x ++ drop (length t) t ≡ digits (length t) x
-digits-start x t = ap (λ (u : List ℕ). digits (length t) x ++ u) (drop-length t) ∙ append-nil (digits (length t) x)
-
-pub digits-done : (left x : ℕ) (t : List ℕ) → left ≤ 0 → digits left x ++ drop left t ≡ t
-unfolding digits
-digits-done left x t l = ap (λ (n : ℕ). digits n x ++ drop n t) (le-zero l)
+  pub filling-all : left ≤ 0 → u ≡ digits (length t) x
+  unfolding digits
+  filling-all l = sym (ap (λ (n : ℕ). digits n high ++ drop n u) (le-zero l)) ∙ h .text

@@ -3,7 +3,8 @@ use Prim.Native.Nat.{ℕ}
 use mathlib.Core.Path.{_≡_, refl}
 use mathlib.Core.List.{List, [], _∷_}
 use Rattle.judging.specs.Request.{request}
-use Rattle.judging.specs.Refusal.{refused, answered, firstOf, outside, vertexCause, slackCause, floorCause, badRow, oneWay, lowestRow, rowCause, edgeCause, graphCauses}
+use Rattle.judging.specs.Refusal.{refused, answered, firstOf, outside, vertexCause, slackCause, floorCause}
+use Rattle.judging.specs.Refusal.{badRow, oneWay, lowestRow, rowCause, edgeCause, graphCauses}
 use Rattle.sets.specs.Ranges.{from, range, all, any, first}
 use Rattle.sets.specs.Set.{bit, has}
 use Rattle.sets.specs.Graph.{row}
@@ -29,7 +30,7 @@ unfolding ring reading headingCauses bodyCauses headingCause rowsCause roomCause
 ring-read = refl
 
 pub ring-written : ring ≡ sheetText (0x12 ∷ 0x05 ∷ 0x0A ∷ 0x14 ∷ 0x09 ∷ []) (request 2 3)
-ring-written = read-back ring 5 0 (sheet (0x12 ∷ 0x05 ∷ 0x0A ∷ 0x14 ∷ 0x09 ∷ []) (request 2 3)) ring-read
+ring-written = read-back ring 5 ring-read
 
 pub empty-refused : (room : ℕ) → reading [] room ≡ refused 8 1
 unfolding reading headingCauses headingCause firstOf all isLine

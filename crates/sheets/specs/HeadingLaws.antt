@@ -1,87 +1,105 @@
 -- Line 1 as the code reads and fills it, and the definitions of it.
-use Prim.Native.Nat.{ℕ, suc, _+_, _-_, _*_, _≤_}
-use native.Mathlib.Nat.{add-sub-cancel-left}
+use Prim.Native.Nat.{ℕ, _+_, _-_, _*_, _≤_}
 use native.Mathlib.Omega.{arith}
 use mathlib.Core.Path.{_≡_, refl, sym, ap, ap₂, _∙_, subst}
-use mathlib.Core.Bool.{Bool, true, false}
+use mathlib.Core.Bool.{Bool, true, false, not}
 use mathlib.Core.List.{List, [], _++_, append-assoc}
 use lib.Dec.{T}
-use lib.ListN.{length, getD, take, drop, set, length-append, length-drop, take-append-drop}
-use lib.Seq.{drop-cons, take-add, take-take, drop-drop, drop-at, set-at, length-take-le}
-use Rattle.sets.specs.Ranges.{all}
+use lib.ListN.{length, getD, take, drop, set, length-append, length-drop}
+use lib.Seq.{drop-cons, drop-drop, drop-at, set-at, length-take-le}
 use Rattle.sets.specs.RangeLaws.{true-holds}
 use Rattle.judging.specs.Request.{Request, request}
-use Rattle.judging.specs.Refusal.{Reply, refused, firstOf, mostVertices, mostSlack, outside, vertexCause, slackCause, floorCause}
+use Rattle.judging.specs.Refusal.{Reply, refused, answered, firstOf, mostVertices, mostSlack, outside, vertexCause, slackCause, floorCause}
+use Rattle.judging.specs.CallLaws.{not-accepted, accepted}
 use Rattle.sheets.specs.Digits.{isDigit, digits, number}
 use Rattle.sheets.specs.Lines.{newline, isLine, field}
-use Rattle.sheets.specs.Sheet.{fieldDigits, headingDigits, headingLength, headingText, vertexField, slackField, floorField, headingCause, headingCauses}
-use Rattle.sheets.specs.Calls.{heading, headingIn}
+use Rattle.sheets.specs.Sheet.{fieldDigits, headingDigits, headingLength, headingText}
+use Rattle.sheets.specs.Sheet.{vertexField, slackField, floorField, headingCause, headingCauses}
+use Rattle.sheets.specs.Calls.{Heading, heading, headingIn}
 use Rattle.sheets.specs.Setting.{Readable, HeadingField}
-use Rattle.sheets.specs.DigitLaws.{all-front, all-back, length-digits}
-use Rattle.sheets.specs.LineLaws.{line-first, right-fits, right-digits, put-next, length-line}
-use Rattle.sheets.specs.SheetLaws.{heading-digits-length}
+use Rattle.sheets.specs.DigitLaws.{all-part, digits-length}
+use Rattle.sheets.specs.LineLaws.{line-first, right-fits, right-digits, part-same, put-next}
+use Rattle.sheets.specs.SheetLaws.{fieldsText, fields-length, heading-length}
 
-all-part : (p : ℕ → Bool) (at w m : ℕ) (t : List ℕ) → at + w ≤ m → T (all p (take m t)) → T (all p (take w (drop at t)))
-all-part p at w m t l d =
-    all-back p (take at t) (take w (drop at t))
-    (subst (λ (u : List ℕ). T (all p u)) (take-take (at + w) m t l ∙ take-add at w t)
-    (all-front p (take (at + w) (take m t)) (drop (at + w) (take m t)) (subst (λ (u : List ℕ). T (all p u)) (sym (take-append-drop (at + w) (take m t))) d)))
+-- ---- a field, as the code takes it
 
-module _ (at : ℕ) (t : List ℕ) (h : HeadingField at t) where
+module _ {at : ℕ} {t : List ℕ} (h : HeadingField at t) where
+  right-heading : T (isLine headingDigits t)
+  right-heading = true-holds (isLine headingDigits t) (h .right)
+
   pub field-fits : at + fieldDigits ≤ length t
-  field-fits = omega (arith, h .inside, right-fits headingDigits t (true-holds (isLine headingDigits t) (h .right)))
+  field-fits = omega (arith, h .inside, right-fits headingDigits t right-heading)
 
   pub field-readable : Readable (take ((at + fieldDigits) - at) (drop at t))
   field-readable =
-      subst (λ (m : ℕ). Readable (take m (drop at t))) (sym (add-sub-cancel-left at fieldDigits))
+      subst (λ (u : List ℕ). Readable u) (sym (part-same at fieldDigits (drop at t)))
       (record {
-        digit = all-part isDigit at fieldDigits headingDigits t (h .inside) (right-digits headingDigits t (true-holds (isLine headingDigits t) (h .right)));
+        digit = all-part isDigit at fieldDigits headingDigits t (h .inside) (right-digits headingDigits t right-heading);
         short = omega (arith, length-take-le fieldDigits (drop at t) (omega (arith, field-fits, length-drop at t)));
       })
 
-  pub field-read : (x : ℕ) → x ≡ number (take ((at + fieldDigits) - at) (drop at t)) → x ≡ field at fieldDigits t
+  pub field-read : {x : ℕ} → x ≡ number (take ((at + fieldDigits) - at) (drop at t)) → x ≡ field at fieldDigits t
   unfolding field
-  field-read x e = e ∙ ap (λ (m : ℕ). number (take m (drop at t))) (add-sub-cancel-left at fieldDigits)
+  field-read e = e ∙ ap number (part-same at fieldDigits (drop at t))
 
-module _ {A : Type 0} (t : List ℕ) (r : Reply A) where
-  pub heading-refused : isLine headingDigits t ≡ false → refused 8 1 ≡ firstOf (headingCauses t) r
+-- the code read x where the field says y, and b is its test
+module _ (p : ℕ → Bool) {x y : ℕ} {b : Bool} (e : x ≡ y) (tested : b ≡ not (p x)) where
+  pub field-refused : not b ≡ true → p y ≡ true
+  field-refused h = ap p (sym e) ∙ not-accepted b (p x) tested h
+
+  pub field-accepted : not b ≡ false → p y ≡ false
+  field-accepted h = ap p (sym e) ∙ accepted b (p x) tested h
+
+-- ---- the tests of line 1, one after the other
+
+abbrev pub headingReply : List ℕ → Reply Heading
+headingReply t = firstOf (headingCauses t) (answered 0 (headingIn t))
+
+module _ (t : List ℕ) where
+  pub heading-refused : isLine headingDigits t ≡ false → refused 8 1 ≡ headingReply t
   unfolding firstOf headingCauses headingCause
   heading-refused e = rw e
 
-  pub vertices-refused : isLine headingDigits t ≡ true → outside 1 mostVertices (vertexField t) ≡ true → refused 1 0 ≡ firstOf (headingCauses t) r
-  unfolding firstOf headingCauses headingCause vertexCause
-  vertices-refused e n = rw (e, n)
+  module _ (right : isLine headingDigits t ≡ true) where
+    pub vertices-refused : outside 1 mostVertices (vertexField t) ≡ true → refused 1 0 ≡ headingReply t
+    unfolding firstOf headingCauses headingCause vertexCause
+    vertices-refused h = rw (right, h)
 
-  pub slack-refused : isLine headingDigits t ≡ true → outside 1 mostVertices (vertexField t) ≡ false → outside 1 mostSlack (slackField t) ≡ true
-      → refused 2 0 ≡ firstOf (headingCauses t) r
-  unfolding firstOf headingCauses headingCause vertexCause slackCause
-  slack-refused e n k = rw (e, n, k)
+    module _ (n-in : outside 1 mostVertices (vertexField t) ≡ false) where
+      pub slack-refused : outside 1 mostSlack (slackField t) ≡ true → refused 2 0 ≡ headingReply t
+      unfolding firstOf headingCauses headingCause vertexCause slackCause
+      slack-refused h = rw (right, n-in, h)
 
-  pub floor-refused : isLine headingDigits t ≡ true → outside 1 mostVertices (vertexField t) ≡ false → outside 1 mostSlack (slackField t) ≡ false
-      → outside (2 * slackField t - 1) mostVertices (floorField t) ≡ true → refused 3 0 ≡ firstOf (headingCauses t) r
-  unfolding firstOf headingCauses headingCause vertexCause slackCause floorCause
-  floor-refused e n k q = rw (e, n, k, q)
+      module _ (k-in : outside 1 mostSlack (slackField t) ≡ false) {k : ℕ} (slack : k ≡ slackField t) where
+        floor-test : (b : Bool) → outside (2 * k - 1) mostVertices (floorField t) ≡ b → outside (2 * slackField t - 1) mostVertices (floorField t) ≡ b
+        floor-test b h = ap (λ (x : ℕ). outside (2 * x - 1) mostVertices (floorField t)) (sym slack) ∙ h
 
-  pub heading-passed : isLine headingDigits t ≡ true → outside 1 mostVertices (vertexField t) ≡ false → outside 1 mostSlack (slackField t) ≡ false
-      → outside (2 * slackField t - 1) mostVertices (floorField t) ≡ false → r ≡ firstOf (headingCauses t) r
-  unfolding firstOf headingCauses headingCause vertexCause slackCause floorCause
-  heading-passed e n k q = rw (e, n, k, q)
+        pub floor-refused : outside (2 * k - 1) mostVertices (floorField t) ≡ true → refused 3 0 ≡ headingReply t
+        unfolding firstOf headingCauses headingCause vertexCause slackCause floorCause
+        floor-refused h = rw (right, n-in, k-in, floor-test true h)
 
-pub heading-same : (t : List ℕ) (n k q : ℕ) → n ≡ vertexField t → k ≡ slackField t → q ≡ floorField t → heading n (request k q) ≡ headingIn t
-heading-same t n k q a b c = ap (λ (x : ℕ). heading x (request k q)) a ∙ ap₂ (λ (x y : ℕ). heading (vertexField t) (request x y)) b c
+        pub heading-accepted : {n q : ℕ} → outside (2 * k - 1) mostVertices (floorField t) ≡ false → n ≡ vertexField t → q ≡ floorField t
+            → answered 0 (heading n (request k q)) ≡ headingReply t
+        unfolding firstOf headingCauses headingCause vertexCause slackCause floorCause
+        heading-accepted {n} {q} h e f =
+            rw (right, n-in, k-in, floor-test false h)
+            (ap (λ (x : ℕ). answered 0 (heading x (request k q))) e ∙ ap₂ (λ (x y : ℕ). answered 0 (heading (vertexField t) (request x y))) slack f)
 
--- a field of line 1 put behind those before it
-pub put-field : (i x : ℕ) (t u done p : List ℕ) → length done ≡ i → i + fieldDigits ≤ length t → u ≡ done ++ drop i t → p ≡ digits (length (take fieldDigits (drop i u))) x
+-- ---- line 1 as the code fills it in: three fields, and then the byte at its end
+
+-- a field put behind those before it
+put-field : (i x : ℕ) (t u done p : List ℕ) → length done ≡ i → i + fieldDigits ≤ length t → u ≡ done ++ drop i t
+    → p ≡ digits (length (take fieldDigits (drop i u))) x
     → take i u ++ (p ++ drop fieldDigits (drop i u)) ≡ done ++ digits fieldDigits x ++ drop fieldDigits (drop i t)
 put-field i x t u done p e l f g =
     let same : drop i u ≡ drop i t = ap (drop i) f ∙ drop-at done (drop i t) i e in
+    let two : length (take fieldDigits (drop i t)) ≡ fieldDigits = length-take-le fieldDigits (drop i t) (omega (arith, length-drop i t)) in
     ap (λ (v : List ℕ). take i v ++ (p ++ drop fieldDigits (drop i v))) f
     ∙ put-next i fieldDigits done (drop i t) p e
     ∙ ap (λ (v : List ℕ). done ++ v ++ drop fieldDigits (drop i t))
-    (g ∙ ap (λ (v : List ℕ). digits (length (take fieldDigits v)) x) same ∙ ap (λ (m : ℕ). digits m x) (length-take-le fieldDigits (drop i t) (omega (arith, length-drop i t))))
+    (g ∙ ap (λ (v : List ℕ). digits (length (take fieldDigits v)) x) same ∙ ap (λ (m : ℕ). digits m x) two)
 
--- line 1 as the code fills it in: three fields, and then the byte at its end
-module _ (n : ℕ) (ask : Request) (t d₁ d₂ d₃ u₁ u₂ u₃ : List ℕ) (long : headingLength ≤ length t)
+module _ (n : ℕ) (ask : Request) (t : List ℕ) {d₁ d₂ d₃ u₁ u₂ u₃ : List ℕ} (long : headingLength ≤ length t)
     (e₁ : d₁ ≡ digits (length (take fieldDigits t)) n) (s₁ : u₁ ≡ d₁ ++ drop 2 t)
     (e₂ : d₂ ≡ digits (length (take fieldDigits (drop 2 u₁))) (ask .slack)) (s₂ : u₂ ≡ take 2 u₁ ++ (d₂ ++ drop 2 (drop 2 u₁)))
     (e₃ : d₃ ≡ digits (length (take fieldDigits (drop 4 u₂))) (ask .floor)) (s₃ : u₃ ≡ take 4 u₂ ++ (d₃ ++ drop 2 (drop 4 u₂))) where
@@ -90,27 +108,23 @@ module _ (n : ℕ) (ask : Request) (t d₁ d₂ d₃ u₁ u₂ u₃ : List ℕ) 
 
   two : u₂ ≡ digits 2 n ++ digits 2 (ask .slack) ++ drop 4 t
   two =
-      s₂ ∙ put-field 2 (ask .slack) t u₁ (digits 2 n) d₂ (length-digits 2 n) (omega arith) one e₂
+      s₂ ∙ put-field 2 (ask .slack) t u₁ (digits 2 n) d₂ (digits-length 2 n) (omega arith) one e₂
       ∙ ap (λ (v : List ℕ). digits 2 n ++ digits 2 (ask .slack) ++ v) (drop-drop 2 2 t)
 
   three : u₃ ≡ digits 2 n ++ digits 2 (ask .slack) ++ digits 2 (ask .floor) ++ drop 6 t
   three =
-      s₃ ∙ put-field 4 (ask .floor) t u₂ (digits 2 n ++ digits 2 (ask .slack)) d₃
-      (omega (arith, length-append (digits 2 n) (digits 2 (ask .slack)), length-digits 2 n, length-digits 2 (ask .slack))) (omega arith) two e₃
+      s₃ ∙ put-field 4 (ask .floor) t u₂ (digits 2 n ++ digits 2 (ask .slack)) d₃ (simp (length-append, digits-length)) (omega arith) two e₃
       ∙ ap (λ (v : List ℕ). digits 2 n ++ digits 2 (ask .slack) ++ digits 2 (ask .floor) ++ v) (drop-drop 2 4 t)
 
   pub heading-filled : set u₃ 6 newline ≡ headingText n ask ++ drop headingLength t
   unfolding headingText
   heading-filled =
-      let fields = digits 2 n ++ (digits 2 (ask .slack) ++ digits 2 (ask .floor)) in
+      let all = fieldsText n ask in
       ap (λ (v : List ℕ). set v 6 newline)
       (three ∙ ap₂ _++_ (append-assoc (digits 2 n) (digits 2 (ask .slack)) (digits 2 (ask .floor))) (drop-cons t 6 0 (omega arith)))
-      ∙ set-at fields (getD t 6 0) (drop 7 t) newline 6 (heading-digits-length n ask [])
-      ∙ sym (line-first fields (drop 7 t))
-
-pub length-heading : (n : ℕ) (ask : Request) → length (headingText n ask) ≡ headingLength
-unfolding headingText
-length-heading n ask = length-line (digits 2 n ++ (digits 2 (ask .slack) ++ digits 2 (ask .floor))) ∙ ap suc (heading-digits-length n ask [])
+      ∙ set-at all (getD t 6 0) (drop 7 t) newline 6 (fields-length n ask)
+      ∙ sym (line-first all (drop 7 t))
 
 pub heading-keeps-length : (n : ℕ) (ask : Request) (t : List ℕ) → headingLength ≤ length t → length (headingText n ask ++ drop headingLength t) ≡ length t
-heading-keeps-length n ask t l = omega (arith, length-append (headingText n ask) (drop headingLength t), length-heading n ask, length-drop headingLength t)
+heading-keeps-length n ask t l =
+    omega (arith, length-append (headingText n ask) (drop headingLength t), heading-length n ask, length-drop headingLength t)

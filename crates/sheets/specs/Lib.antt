@@ -4,6 +4,7 @@ pub mod Lines
 pub mod Sheet
 pub mod Calls
 pub mod Setting
+pub mod OverLaws
 pub mod DigitLaws
 pub mod LineLaws
 pub mod SheetLaws

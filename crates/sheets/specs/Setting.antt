@@ -4,8 +4,7 @@
 --   HeadingField at t    line 1 of t is right, and a field of it is at position at
 --   HeadingRead n ask t  line 1 of t passes and says n and the request ask
 --   RowLines n t         the n lines that t begins with are right, and n is a number of vertices
---   RowRoom n t          n rows have room in t, and n is a number of vertices
-use Prim.Native.Nat.{ℕ, _+_, _*_, _≤_}
+use Prim.Native.Nat.{ℕ, _+_, _≤_}
 use mathlib.Core.Path.{_≡_}
 use mathlib.Core.Bool.{true}
 use mathlib.Core.List.{List}
@@ -18,7 +17,7 @@ use Rattle.judging.specs.Refusal.{firstOf}
 use Rattle.judging.specs.Calls.{passed}
 use Rattle.sheets.specs.Digits.{wordDigits, isDigit}
 use Rattle.sheets.specs.Lines.{isLine, rightLines}
-use Rattle.sheets.specs.Sheet.{fieldDigits, headingDigits, rowDigits, rowLength, headingCauses}
+use Rattle.sheets.specs.Sheet.{fieldDigits, headingDigits, rowDigits, headingCauses}
 use Rattle.sheets.specs.Calls.{heading, headingIn}
 
 pub record Readable (bs : List ℕ) : Type 0 where
@@ -36,7 +35,3 @@ pub record HeadingRead (n : ℕ) (ask : Request) (t : List ℕ) : Type 0 where
 pub record RowLines (n : ℕ) (t : List ℕ) : Type 0 where
   pub most : n ≤ width
   pub right : rightLines rowDigits n t ≡ n
-
-pub record RowRoom (n : ℕ) (t : List ℕ) : Type 0 where
-  pub most : n ≤ width
-  pub room : n * rowLength ≤ length t

@@ -17,41 +17,43 @@ use Rattle.sets.specs.Words.{width}
 use Rattle.judging.specs.Request.{Request}
 use Rattle.judging.specs.Refusal.{answered, Cause, firstOf, vertexCause, slackCause, floorCause, graphCauses}
 use Rattle.judging.specs.Calls.{passed, requestCheck}
-use Rattle.judging.specs.RefusalLaws.{first-append, first-skips, first-passed, answered-passed, answered-found, passed-head, passed-front, passed-back, graph-sized, graph-checked, slack-accepted, slack-graph, request-slack, floor-accepted}
+use Rattle.judging.specs.RefusalLaws.{first-append, first-skips, first-passed, answered-passed, answered-found}
+use Rattle.judging.specs.RefusalLaws.{passed-head, passed-tail, passed-front, passed-back}
+use Rattle.judging.specs.RefusalLaws.{graph-sized, graph-checked, slack-accepted, slack-graph, request-slack, floor-accepted}
 use Rattle.sheets.specs.Digits.{isDigit, digits, number}
 use Rattle.sheets.specs.Lines.{newline, line, lines, isLine, field, rightLines, numbers}
 use Rattle.sheets.specs.Sheet.{headingDigits, rowDigits, rowLength, sheetLength, headingText, sheetText}
 use Rattle.sheets.specs.Sheet.{vertexField, slackField, floorField, requestIn, body, Sheet, sheet, sheetOf}
 use Rattle.sheets.specs.Sheet.{headingCause, rowsCause, roomCause, headingCauses, bodyCauses, reading, writing}
-use Rattle.sheets.specs.DigitLaws.{length-digits, all-digits, all-append, all-front, all-back, number-digits, digits-number}
-use Rattle.sheets.specs.LineLaws.{line-first, line-drop, line-right, right-digits, right-fits, right-line, right-lines, length-lines, lines-right, lines-numbers, length-numbers, right-most}
+use Rattle.sheets.specs.DigitLaws.{digits-length, all-digits, all-append, all-part, number-digits, digits-number}
+use Rattle.sheets.specs.LineLaws.{line-length, line-drop, line-right, right-digits, right-fits, right-line, right-lines, right-most}
+use Rattle.sheets.specs.LineLaws.{lines-length, lines-right, lines-numbers, numbers-length}
 
 -- ---- fields
 
 -- the number in w digits is written back as these digits
-pub field-back : (at w : ℕ) (t : List ℕ) → at + w ≤ length t → T (all isDigit (take w (drop at t))) → digits w (field at w t) ≡ take w (drop at t)
+field-back : (at w : ℕ) (t : List ℕ) → at + w ≤ length t → T (all isDigit (take w (drop at t))) → digits w (field at w t) ≡ take w (drop at t)
 unfolding field
 field-back at w t l d =
     ap (λ (n : ℕ). digits n (number (take w (drop at t)))) (sym (length-take-le w (drop at t) (omega (arith, length-drop at t))))
     ∙ digits-number (take w (drop at t)) d
 
--- the first w bytes, at digits of them passed
-six : (t : List ℕ) → take 6 t ≡ take 2 (drop 0 t) ++ (take 2 (drop 2 t) ++ take 2 (drop 4 t))
-six t =
+-- the six digits of line 1 are three fields
+three : (t : List ℕ) → take 6 t ≡ take 2 (drop 0 t) ++ (take 2 (drop 2 t) ++ take 2 (drop 4 t))
+three t =
     take-add 2 4 t ∙ ap (λ (l : List ℕ). take 2 t ++ l) (take-add 2 2 (drop 2 t) ∙ ap (λ (l : List ℕ). take 2 (drop 2 t) ++ take 2 l) (drop-drop 2 2 t))
 
-pub heading-back : (t : List ℕ) → isLine headingDigits t ≡ true → t ≡ headingText (vertexField t) (requestIn t) ++ body t
+heading-back : (t : List ℕ) → isLine headingDigits t ≡ true → t ≡ headingText (vertexField t) (requestIn t) ++ body t
 unfolding headingText
 heading-back t e =
-    let r = true-holds (isLine 6 t) e in
-    let d = subst (λ (l : List ℕ). T (all isDigit l)) (six t) (right-digits 6 t r) in
-    let f = right-fits 6 t r in
     right-line 6 t r
-    ∙ ap (λ (l : List ℕ). line l ++ drop 7 t)
-    (six t
-    ∙ sym (ap₂ _++_ (field-back 0 2 t (omega arith) (all-front isDigit (take 2 (drop 0 t)) (take 2 (drop 2 t) ++ take 2 (drop 4 t)) d))
-    (ap₂ _++_ (field-back 2 2 t (omega arith) (all-front isDigit (take 2 (drop 2 t)) (take 2 (drop 4 t)) (all-back isDigit (take 2 (drop 0 t)) (take 2 (drop 2 t) ++ take 2 (drop 4 t)) d)))
-    (field-back 4 2 t (omega arith) (all-back isDigit (take 2 (drop 2 t)) (take 2 (drop 4 t)) (all-back isDigit (take 2 (drop 0 t)) (take 2 (drop 2 t) ++ take 2 (drop 4 t)) d))))))
+    ∙ ap (λ (l : List ℕ). line l ++ drop 7 t) (three t ∙ sym (ap₂ _++_ (back 0 (omega arith)) (ap₂ _++_ (back 2 (omega arith)) (back 4 (omega arith)))))
+  where
+    r : T (isLine headingDigits t)
+    r = true-holds (isLine headingDigits t) e
+
+    back : (at : ℕ) → at + 2 ≤ 6 → digits 2 (field at 2 t) ≡ take 2 (drop at t)
+    back at l = field-back at 2 t (omega (arith, right-fits 6 t r)) (all-part isDigit at 2 6 t l (right-digits 6 t r))
 
 -- ---- the lines below line 1
 
@@ -70,102 +72,132 @@ pub clear-rows : (n : ℕ) (t : List ℕ) → rightLines rowDigits n t ≡ n →
 unfolding rowsCause
 clear-rows n t e l = ap₂ _||_ (le-ltb (rightLines rowDigits n t) n (omega arith)) (le-ltb (n * rowLength) (length t) l)
 
-pub rows-back : (n : ℕ) (t : List ℕ) → rowsCause n t .holds ≡ false → t ≡ lines rowDigits (numbers rowDigits n t)
+rows-back : (n : ℕ) (t : List ℕ) → rowsCause n t .holds ≡ false → t ≡ lines rowDigits (numbers rowDigits n t)
 rows-back n t e =
     let r = rows-clear n t e in
     right-lines rowDigits n t (r .0)
     ∙ ap (λ (l : List ℕ). lines rowDigits (numbers rowDigits n t) ++ l) (drop-of-length-le t (r .1))
     ∙ append-nil (lines rowDigits (numbers rowDigits n t))
 
+-- ---- what passes: line 1 by its layout and then by its fields, what is below it by its lines and then by its rows
+
+abbrev pub fieldCauses : List ℕ → List Cause
+fieldCauses t = vertexCause (vertexField t) ∷ slackCause (slackField t) ∷ floorCause (slackField t) (floorField t) ∷ []
+
+module _ (t : List ℕ) (e : firstOf (headingCauses t) passed ≡ passed) where
+  pub passed-line : isLine headingDigits t ≡ true
+  unfolding headingCauses headingCause
+  passed-line = not-false (isLine headingDigits t) (passed-head (headingCause t) (fieldCauses t) e)
+
+  pub passed-fields : firstOf (fieldCauses t) passed ≡ passed
+  unfolding headingCauses
+  passed-fields = passed-tail (headingCause t) (fieldCauses t) e
+
+module _ (n : ℕ) (t : List ℕ) (e : firstOf (bodyCauses n t) passed ≡ passed) where
+  pub passed-rows : rowsCause n t .holds ≡ false
+  unfolding bodyCauses
+  passed-rows = passed-head (rowsCause n t) (graphCauses (numbers rowDigits n t)) e
+
+  pub passed-graph : firstOf (graphCauses (numbers rowDigits n t)) passed ≡ passed
+  unfolding bodyCauses
+  passed-graph = passed-tail (rowsCause n t) (graphCauses (numbers rowDigits n t)) e
+
 -- ---- a sheet that is read is written back byte by byte
 
-abbrev after-heading : List ℕ → ℕ → List Cause
-after-heading t room =
-    vertexCause (vertexField t) ∷ slackCause (slackField t) ∷ floorCause (slackField t) (floorField t)
-    ∷ bodyCauses (vertexField t) (body t) ++ roomCause room (vertexField t) ∷ []
+-- what is judged once line 1 has passed
+abbrev pub belowCauses : List ℕ → ℕ → List Cause
+belowCauses t room = bodyCauses (vertexField t) (body t) ++ roomCause room (vertexField t) ∷ []
 
 -- of a text that is read none of the causes holds, and it says what is answered
 module _ (t : List ℕ) (room : ℕ) {v : ℕ} {s : Sheet} (e : reading t room ≡ answered v s) where
-  pub read-passed : firstOf (headingCauses t ++ (bodyCauses (vertexField t) (body t) ++ roomCause room (vertexField t) ∷ [])) passed ≡ passed
+  read-passed : firstOf (headingCauses t ++ belowCauses t room) passed ≡ passed
   unfolding reading
-  read-passed = answered-passed (headingCauses t ++ (bodyCauses (vertexField t) (body t) ++ roomCause room (vertexField t) ∷ [])) 0 v (sheetOf t) s e
+  read-passed = answered-passed (headingCauses t ++ belowCauses t room) 0 v (sheetOf t) s e
+
+  pub read-heading-passed : firstOf (headingCauses t) passed ≡ passed
+  read-heading-passed = passed-front (headingCauses t) (belowCauses t room) read-passed
+
+  pub read-body-passed : firstOf (bodyCauses (vertexField t) (body t)) passed ≡ passed
+  read-body-passed =
+      passed-front (bodyCauses (vertexField t) (body t)) (roomCause room (vertexField t) ∷ [])
+      (passed-back (headingCauses t) (belowCauses t room) read-passed)
 
   pub read-answer : s ≡ sheetOf t
   unfolding reading
-  read-answer = answered-found (headingCauses t ++ (bodyCauses (vertexField t) (body t) ++ roomCause room (vertexField t) ∷ [])) 0 (sheetOf t) e
+  read-answer = answered-found (headingCauses t ++ belowCauses t room) 0 (sheetOf t) e
 
-pub read-back : (t : List ℕ) (room v : ℕ) (s : Sheet) → reading t room ≡ answered v s → t ≡ sheetText (s .rows) (s .request)
-unfolding headingCauses bodyCauses headingCause sheetText sheetOf
-read-back t room v s e =
-    let after = bodyCauses (vertexField t) (body t) ++ roomCause room (vertexField t) ∷ [] in
-    let p = read-passed t room e in
-    heading-back t (not-false (isLine headingDigits t) (passed-head (headingCause t) (after-heading t room) p))
-    ∙ ap (λ (l : List ℕ). headingText (vertexField t) (requestIn t) ++ l)
-    (rows-back (vertexField t) (body t) (passed-head (rowsCause (vertexField t) (body t)) (graphCauses (numbers rowDigits (vertexField t) (body t)) ++ roomCause room (vertexField t) ∷ [])
-    (passed-back (headingCauses t) after p)))
-    ∙ ap (λ (n : ℕ). headingText n (requestIn t) ++ lines rowDigits (numbers rowDigits (vertexField t) (body t))) (sym (length-numbers rowDigits (vertexField t) (body t)))
-    ∙ ap (λ (x : Sheet). sheetText (x .rows) (x .request)) (sym (read-answer t room e))
+  pub read-back : t ≡ sheetText (s .rows) (s .request)
+  unfolding sheetText sheetOf
+  read-back =
+      let n = vertexField t in
+      let g = numbers rowDigits n (body t) in
+      heading-back t (passed-line t read-heading-passed)
+      ∙ ap (λ (l : List ℕ). headingText n (requestIn t) ++ l) (rows-back n (body t) (passed-rows n (body t) read-body-passed))
+      ∙ ap (λ (m : ℕ). headingText m (requestIn t) ++ lines rowDigits g) (sym (numbers-length rowDigits n (body t)))
+      ∙ ap (λ (x : Sheet). sheetText (x .rows) (x .request)) (sym read-answer)
 
 -- ---- what was written reads back as it was
 
+-- what stands in line 1
+abbrev pub fieldsText : ℕ → Request → List ℕ
+fieldsText n ask = digits 2 n ++ (digits 2 (ask .slack) ++ digits 2 (ask .floor))
+
+pub fields-length : (n : ℕ) (ask : Request) → length (fieldsText n ask) ≡ 6
+fields-length n ask = simp (length-append, digits-length)
+
+pub heading-length : (n : ℕ) (ask : Request) → length (headingText n ask) ≡ 7
+unfolding headingText
+heading-length n ask = omega (arith, line-length (fieldsText n ask), fields-length n ask)
+
+fields-digits : (n : ℕ) (ask : Request) → T (all isDigit (fieldsText n ask))
+fields-digits n ask =
+    let k = digits 2 (ask .slack) in
+    let q = digits 2 (ask .floor) in
+    all-append isDigit (digits 2 n) (k ++ q) (all-digits 2 n) (all-append isDigit k q (all-digits 2 (ask .slack)) (all-digits 2 (ask .floor)))
+
 module _ (n : ℕ) (ask : Request) (t : List ℕ) where
-  -- line 1 and what follows, field after field
-  heading-parts : headingText n ask ++ t ≡ digits 2 n ++ (digits 2 (ask .slack) ++ (digits 2 (ask .floor) ++ newline ∷ t))
-  unfolding headingText
-  heading-parts =
-      line-first (digits 2 n ++ (digits 2 (ask .slack) ++ digits 2 (ask .floor))) t
-      ∙ append-assoc (digits 2 n) (digits 2 (ask .slack) ++ digits 2 (ask .floor)) (newline ∷ t)
-      ∙ ap (λ (l : List ℕ). digits 2 n ++ l) (append-assoc (digits 2 (ask .slack)) (digits 2 (ask .floor)) (newline ∷ t))
+  -- from the floor on, and from the slack on
+  abbrev from-floor : List ℕ
+  from-floor = digits 2 (ask .floor) ++ newline ∷ t
+
+  abbrev from-slack : List ℕ
+  from-slack = digits 2 (ask .slack) ++ from-floor
+
+  heading-parts : headingText n ask ++ t ≡ digits 2 n ++ from-slack
+  unfolding headingText line
+  heading-parts = simp append-assoc
 
   after-two : (x : ℕ) (l : List ℕ) → drop 2 (digits 2 x ++ l) ≡ l
-  after-two x l = drop-at (digits 2 x) l 2 (length-digits 2 x)
+  after-two x l = drop-at (digits 2 x) l 2 (digits-length 2 x)
 
   first-two : (x : ℕ) (l : List ℕ) → x < 256 → number (take 2 (digits 2 x ++ l)) ≡ x
-  first-two x l h = ap number (take-at (digits 2 x) l 2 (length-digits 2 x)) ∙ number-digits 2 x h
+  first-two x l h = ap number (take-at (digits 2 x) l 2 (digits-length 2 x)) ∙ number-digits 2 x h
+
+  heading-from-slack : drop 2 (headingText n ask ++ t) ≡ from-slack
+  heading-from-slack = ap (drop 2) heading-parts ∙ after-two n from-slack
+
+  heading-from-floor : drop 4 (headingText n ask ++ t) ≡ from-floor
+  heading-from-floor = sym (drop-drop 2 2 (headingText n ask ++ t)) ∙ ap (drop 2) heading-from-slack ∙ after-two (ask .slack) from-floor
 
   pub vertex-field : n < 256 → vertexField (headingText n ask ++ t) ≡ n
   unfolding field
-  vertex-field h = ap (λ (l : List ℕ). number (take 2 l)) heading-parts ∙ first-two n (digits 2 (ask .slack) ++ (digits 2 (ask .floor) ++ newline ∷ t)) h
+  vertex-field h = ap (λ (l : List ℕ). number (take 2 l)) heading-parts ∙ first-two n from-slack h
 
   pub slack-field : ask .slack < 256 → slackField (headingText n ask ++ t) ≡ ask .slack
   unfolding field
-  slack-field h =
-      ap (λ (l : List ℕ). number (take 2 l)) (ap (drop 2) heading-parts ∙ after-two n (digits 2 (ask .slack) ++ (digits 2 (ask .floor) ++ newline ∷ t)))
-      ∙ first-two (ask .slack) (digits 2 (ask .floor) ++ newline ∷ t) h
+  slack-field h = ap (λ (l : List ℕ). number (take 2 l)) heading-from-slack ∙ first-two (ask .slack) from-floor h
 
   pub floor-field : ask .floor < 256 → floorField (headingText n ask ++ t) ≡ ask .floor
   unfolding field
-  floor-field h =
-      ap (λ (l : List ℕ). number (take 2 l))
-      (sym (drop-drop 2 2 (headingText n ask ++ t))
-      ∙ ap (λ (l : List ℕ). drop 2 (drop 2 l)) heading-parts
-      ∙ ap (drop 2) (after-two n (digits 2 (ask .slack) ++ (digits 2 (ask .floor) ++ newline ∷ t)))
-      ∙ after-two (ask .slack) (digits 2 (ask .floor) ++ newline ∷ t))
-      ∙ first-two (ask .floor) (newline ∷ t) h
-
-  heading-digits : T (all isDigit (digits 2 n ++ (digits 2 (ask .slack) ++ digits 2 (ask .floor))))
-  heading-digits =
-      all-append isDigit (digits 2 n) (digits 2 (ask .slack) ++ digits 2 (ask .floor)) (all-digits 2 n)
-      (all-append isDigit (digits 2 (ask .slack)) (digits 2 (ask .floor)) (all-digits 2 (ask .slack)) (all-digits 2 (ask .floor)))
-
-  pub heading-digits-length : length (digits 2 n ++ (digits 2 (ask .slack) ++ digits 2 (ask .floor))) ≡ 6
-  heading-digits-length =
-      omega (
-        arith,
-        length-append (digits 2 n) (digits 2 (ask .slack) ++ digits 2 (ask .floor)),
-        length-append (digits 2 (ask .slack)) (digits 2 (ask .floor)),
-        length-digits 2 n,
-        length-digits 2 (ask .slack),
-        length-digits 2 (ask .floor),
-      )
+  floor-field h = ap (λ (l : List ℕ). number (take 2 l)) heading-from-floor ∙ first-two (ask .floor) (newline ∷ t) h
 
   pub heading-right : isLine headingDigits (headingText n ask ++ t) ≡ true
   unfolding headingText
-  heading-right = line-right 6 (digits 2 n ++ (digits 2 (ask .slack) ++ digits 2 (ask .floor))) t heading-digits-length heading-digits
+  heading-right = line-right 6 (fieldsText n ask) t (fields-length n ask) (fields-digits n ask)
 
   pub heading-body : body (headingText n ask ++ t) ≡ t
   unfolding headingText
-  heading-body = line-drop 6 (digits 2 n ++ (digits 2 (ask .slack) ++ digits 2 (ask .floor))) t heading-digits-length
+  heading-body = line-drop 6 (fieldsText n ask) t (fields-length n ask)
 
 -- the answer to a text whose lines are right, by what it says
 reading-by : (t : List ℕ) (room n : ℕ) (ask : Request) (g : List ℕ) → isLine headingDigits t ≡ true → vertexField t ≡ n
@@ -187,7 +219,7 @@ reads-written g ask room hn hk hq low =
     let under = heading-body n ask t in
     reading-by (headingText n ask ++ t) room n ask g (heading-right n ask t) (vertex-field n ask t hn) (slack-field n ask t hk) (floor-field n ask t hq)
     (subst (λ (l : List ℕ). rowsCause n l .holds ≡ false) (sym under)
-    (clear-rows n t (ap (rightLines rowDigits n) whole ∙ lines-right rowDigits g []) (omega (arith, length-lines rowDigits g))))
+    (clear-rows n t (ap (rightLines rowDigits n) whole ∙ lines-right rowDigits g []) (omega (arith, lines-length rowDigits g))))
     (ap (numbers rowDigits n) (under ∙ whole) ∙ lines-numbers rowDigits g [] low)
 
 pub accepted-back : (g : List ℕ) (ask : Request) (room : ℕ) → firstOf (requestCheck g ask) passed ≡ passed → length g ≤ room

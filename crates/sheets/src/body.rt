@@ -1,26 +1,20 @@
 // The lines below line 1: row after row, one row a line.
 ghost use mathlib.Core.Path.{_≡_};
-ghost use mathlib.Core.List.{_++_};
-ghost use Prim.Native.Nat.{_*_, _≤_};
-ghost use lib.ListN.{length, drop};
+ghost use Prim.Native.Nat.{_≤_};
+ghost use lib.ListN.{length};
 ghost use Rattle.sets.specs.Words.{width, mask, masks};
 ghost use Rattle.judging.specs.Refusal.{firstOf};
 ghost use Rattle.judging.specs.Calls.{passed, checkedReply};
 ghost use Rattle.sheets.specs.Digits.{number};
-ghost use Rattle.sheets.specs.Lines.{lines, rightLines, numbers};
-ghost use Rattle.sheets.specs.Sheet.{rowDigits, rowLength, bodyCauses};
-ghost use Rattle.sheets.specs.Setting.{Readable, RowLines, RowRoom};
+ghost use Rattle.sheets.specs.Lines.{rightLines, numbers};
+ghost use Rattle.sheets.specs.Sheet.{rowDigits, bodyCauses};
+ghost use Rattle.sheets.specs.Setting.{Readable, RowLines};
 use crate::digits;
 use crate::lines;
 use judging::Checked;
 use judging::Refusal;
 use judging::check;
 use sets::Set;
-
-// A digit for each four vertices that a row can have, and the byte that ends the line.
-const ROW_DIGITS: usize = sets::WIDTH / 4;
-
-pub const ROW_LENGTH: usize = ROW_DIGITS + 1;
 
 // Of n rows, how many stand before the first wrong line.
 fn right_rows(text: &[u8], n: usize) -> usize
@@ -29,7 +23,7 @@ fn right_rows(text: &[u8], n: usize) -> usize
 {
     let mut a = 0;
     while a < n {
-        if !lines::is_line(text, a * ROW_LENGTH, ROW_DIGITS) {
+        if !lines::is_line(text, a * lines::ROW_LENGTH, lines::ROW_DIGITS) {
             return a;
         }
         a += 1;
@@ -53,24 +47,9 @@ pub fn store_rows(text: &[u8], rows: &mut [u64])
     let n = sets::count(rows);
     let mut a = 0;
     while a < n {
-        let at = a * ROW_LENGTH;
-        let end = at + ROW_DIGITS;
+        let at = a * lines::ROW_LENGTH;
+        let end = at + lines::ROW_DIGITS;
         sets::put(rows, a, read_row(&text[at..end]));
-        a += 1;
-    }
-}
-
-// Writes the rows to the front of the text.
-pub fn write_rows(rows: &[u64], text: &mut [u8])
-    requires { ⌜ RowRoom (length (masks (now rows))) (now text) ⌝ }
-    ensures { λ _. ⌜ now (text .exit) ≡ lines rowDigits (masks (now (rows .entry))) ++ drop (length (masks (now (rows .entry))) * rowLength) (now (text .entry)) ⌝ }
-{
-    let n = sets::count(rows);
-    let mut a = 0;
-    while a < n {
-        let at = a * ROW_LENGTH;
-        let end = at + ROW_LENGTH;
-        lines::write_row(&mut text[at..end], sets::get(rows, a));
         a += 1;
     }
 }
@@ -84,7 +63,7 @@ pub fn check_body(text: &[u8], n: usize) -> Checked
     if a < n {
         return Checked::Failed(Refusal::Line(a + 2));
     }
-    if n * ROW_LENGTH < text.len() {
+    if n * lines::ROW_LENGTH < text.len() {
         return Checked::Failed(Refusal::Line(n + 2));
     }
     let mut table = [0u64; sets::TABLE];

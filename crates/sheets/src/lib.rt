@@ -73,11 +73,11 @@ pub fn write_sheet(rows: &[u64], request: Request, text: &mut [u8]) -> SheetWrit
         return SheetWritten::Refused(f);
     }
     let n = sets::count(rows);
-    let needed = heading::HEADING_LENGTH + n * body::ROW_LENGTH;
+    let needed = heading::HEADING_LENGTH + n * lines::ROW_LENGTH;
     if text.len() < needed {
         return SheetWritten::Refused(Refusal::Room(needed));
     }
     heading::write_heading(text, n, request);
-    body::write_rows(rows, &mut text[heading::HEADING_LENGTH..]);
+    lines::write_rows(rows, &mut text[heading::HEADING_LENGTH..]);
     SheetWritten::Written(needed)
 }

@@ -1,14 +1,20 @@
 // Lines: digits, and byte 10 at their end.
 ghost use mathlib.Core.Path.{_≡_};
-ghost use Prim.Native.Nat.{_+_, _-_, _^_, _<_};
+ghost use Prim.Native.Nat.{_+_, _-_, _*_, _^_, _≤_, _<_};
 ghost use lib.ListN.{length, drop};
-ghost use Rattle.sets.specs.Words.{mask};
+ghost use Rattle.sets.specs.Words.{mask, masks};
 ghost use Rattle.sheets.specs.Digits.{digits};
-ghost use Rattle.sheets.specs.Lines.{line, isLine};
+ghost use Rattle.sheets.specs.Lines.{line, lines, isLine};
+ghost use Rattle.sheets.specs.Sheet.{rowDigits, rowLength, over};
 use crate::digits;
 use sets::Set;
 
 pub(crate) const NEWLINE: u8 = 10;
+
+// A digit for each four vertices that a row can have, and the byte that ends the line.
+pub(crate) const ROW_DIGITS: usize = sets::WIDTH / 4;
+
+pub const ROW_LENGTH: usize = ROW_DIGITS + 1;
 
 // Does a line of `places` digits stand at the position `at` of the text? One cut short or missing does not.
 pub(crate) fn is_line(text: &[u8], at: usize, places: usize) -> bool
@@ -41,4 +47,19 @@ pub fn write_row(text: &mut [u8], s: Set)
     ensures { λ _. ⌜ now (text .exit) ≡ line (digits (length (now (text .entry)) - 1) (mask s)) ⌝ }
 {
     write_line(text, sets::word(s, 0));
+}
+
+// Writes each set on a line, to the front of the text: the rows of a graph, or the sets of a list.
+pub fn write_rows(rows: &[u64], text: &mut [u8])
+    requires { ⌜ length (masks (now rows)) * rowLength ≤ length (now text) ⌝ }
+    ensures { λ _. ⌜ now (text .exit) ≡ over (lines rowDigits (masks (now (rows .entry)))) (now (text .entry)) ⌝ }
+{
+    let n = sets::count(rows);
+    let mut a = 0;
+    while a < n {
+        let at = a * ROW_LENGTH;
+        let end = at + ROW_LENGTH;
+        write_row(&mut text[at..end], sets::get(rows, a));
+        a += 1;
+    }
 }

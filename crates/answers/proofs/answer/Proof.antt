@@ -1,4 +1,4 @@
--- `answers::answer` meets its contract: the graph that was read is listed, and a text that is no sheet is refused.
+-- The graph of a sheet that was read is listed, and a text that is no sheet is refused as reading it is.
 use Prim.Native.Nat.{ℕ, _*_, _≤_}
 use mathlib.Core.Path.{_≡_, sym, ap, _∙_}
 use mathlib.Core.List.{List}
@@ -10,10 +10,10 @@ use Rattle.sets.specs.Words.{perSet, width, masks}
 use Rattle.sets.specs.Words.Groups.{blank}
 use Rattle.sets.specs.Words.Operations.{offset-fits, blank-masks}
 use Rattle.judging.specs.Request.{Request, asked}
-use Rattle.judging.specs.Refusal.{answered, mostVertices}
+use Rattle.judging.specs.Refusal.{mostVertices}
 use Rattle.sheets.specs.Sheet.{reading, rowsAfter}
-use Rattle.sheets.specs.Calls.{heading, headingOf, readReply}
-use Rattle.answers.specs.AnswerLaws.{rows-fit, enough-room, answer-listed, answer-refused}
+use Rattle.sheets.specs.Calls.{headingOf, readReply}
+use Rattle.answers.specs.AnswerLaws.{GaveSheet, rows-fit, room-fits, answer-listed, answer-refused}
 use native.Mathlib.Omega.{arith}
 use borrow.Author.Needs.{needs}
 use Rattle.answers.proofs.answer.Statement.{statement}
@@ -48,29 +48,27 @@ table = blank (width * perSet)
 room : length (masks table) ≡ mostVertices
 room = ap length (blank-masks width)
 
-gave : (c : tie.After-known-told) → answered 0 (heading (n c) (ask c)) ≡ headingOf (reading (now (start c .args .text)) mostVertices)
+-- what reading into them answers
+read-room : (t : List ℕ) → headingOf (reading t (length (masks table))) ≡ headingOf (reading t mostVertices)
+read-room t = ap (λ (m : ℕ). headingOf (reading t m)) room
+
+gave : (c : tie.After-known-told) → GaveSheet (now (start c .args .text)) (n c) (ask c) (masks table) (words c)
 gave c =
-    sym (ap readReply (c .before .read .given .1)) ∙ c .before .before .before .before .read-sheet .ensures .reply
-    ∙ ap (λ (m : ℕ). headingOf (reading (now (start c .args .text)) m)) room
-
-stored : (c : tie.After-known-told) → masks (words c) ≡ rowsAfter (reading (now (start c .args .text)) mostVertices) (masks table)
-stored c =
-    c .before .before .before .before .read-sheet .ensures .rows
-    ∙ ap (λ (m : ℕ). rowsAfter (reading (now (start c .args .text)) m) (masks table)) room
-
-fits : (c : tie.After-known-told) → n c ≤ length (masks (words c))
-fits c =
-    let s = start c .args in
-    rows-fit (now (s .text)) (n c) (ask c) (masks table) (words c) (gave c) (stored c)
+    let t = now (start c .args .text) in
+    let read = c .before .before .before .before .read-sheet .ensures in
+    record {
+      reply = sym (ap readReply (c .before .read .given .1)) ∙ read .reply ∙ read-room t;
+      rows = read .rows ∙ ap (λ (m : ℕ). rowsAfter (reading t m) (masks table)) room;
+    }
 
 slice-aggregate-offset : tie.Need-slice-aggregate-offset
 slice-aggregate-offset c = search needs
 
 offset-requires : tie.Need-offset-requires
-offset-requires c κs = fits (c .before)
+offset-requires c κs = rows-fit (gave (c .before))
 
 end-fits : (c : tie.After-offset) → c .offset .result ≤ length (words (c .before .before))
-end-fits c = let at = c .before .before in offset-fits (n at) (c .offset .result) (words at) (c .offset .ensures) (fits at)
+end-fits c = let at = c .before .before in offset-fits (n at) (c .offset .result) (words at) (c .offset .ensures) (rows-fit (gave at))
 
 array-share-prefix-rows : tie.Need-array-share-prefix-rows
 array-share-prefix-rows c = end-fits c
@@ -79,7 +77,7 @@ slice-aggregate-list-out : tie.Need-slice-aggregate-list-out
 slice-aggregate-list-out c = sym (length-take-le (c .before .offset .result) (words (c .before .before .before)) (end-fits (c .before)))
 
 list-out-requires : tie.Need-list-out-requires
-list-out-requires c κs = enough-room _ _ 4096 69649 (c .before .list-out-arg .given .0 .1) (c .list-out-arg2 .given .0 .1) (lit≤ tt) (lit≤ tt)
+list-out-requires c κs = room-fits _ 4096 69649 (c .before .list-out-arg .given .0 .1) (c .list-out-arg2 .given .0 .1) (lit≤ tt) (lit≤ tt)
 
 enum-known-read-2 : tie.Need-enum-known-read-2
 enum-known-read-2 c = search needs
@@ -89,35 +87,16 @@ write-refusal-requires c κs = omega (arith, c .write-refusal-arg .given .0 .1)
 
 returns : tie.Need-returns
 returns c =
-    let cut = c .before .before .before .before .offset in
     let at = c .before .before .before .before .before .before in
-    let s = start at .args in
-    let listed = c .list-out in
-    answer-listed (now (s .text)) (n at) (ask at) (masks table) (words at) (gave at) (stored at) (cut .result)
-    (masks (now (s .slots))) (masks (listed .last .1 .1 .0)) (now (s .out)) (listed .last .1 .1 .1 .0) (listed .result) (cut .ensures) (listed .ensures)
+    answer-listed (gave at) (c .before .before .before .before .offset .ensures) (c .list-out .ensures)
 
 returns-2 : tie.Need-returns-2
 returns-2 c =
-    let s = c .before .before .before .before .before .before .before .before .before .args in
-    let first = c .before .before .before .before .before .before .read-sheet in
-    let refused = c .before .before .before .read2 .given in
-    let written = c .write-refusal in
-    answer-refused (now (s .text)) (masks (now (s .slots))) (now (s .out)) (written .last .1 .0) (written .result) (refused .0 .0)
-    (sym (ap readReply (refused .1)) ∙ first .ensures .reply ∙ ap (λ (m : ℕ). headingOf (reading (now (s .text)) m)) room) (written .ensures)
+    let t = now (c .before .before .before .before .before .before .before .before .before .args .text) in
+    let read = c .before .before .before .before .before .before .read-sheet .ensures in
+    answer-refused (c .before .before .before .read2 .given .1) (read .reply ∙ read-room t) (c .write-refusal .ensures)
 
 pub answer-spec : {M : Type 1} → statement M
 answer-spec =
-    tie.close
-    (tie.spec
-    slice-aggregate-read-sheet
-    read-sheet-requires
-    enum-known-read
-    slice-aggregate-offset
-    offset-requires
-    array-share-prefix-rows
-    slice-aggregate-list-out
-    list-out-requires
-    enum-known-read-2
-    write-refusal-requires
-    returns
-    returns-2)
+    tie.close (tie.spec slice-aggregate-read-sheet read-sheet-requires enum-known-read slice-aggregate-offset offset-requires
+    array-share-prefix-rows slice-aggregate-list-out list-out-requires enum-known-read-2 write-refusal-requires returns returns-2)

@@ -1,31 +1,10 @@
--- `kadvisk::kadvisk_first_bound` meets its contract: the outcome is that of the answer of `first_bound` to the sets of the masks.
-use Prim.Native.Nat.{ℕ}
-use mathlib.Core.Path.{ap, ap₂, _∙_}
-use denote.Ref.{now}
+-- The outcome is that of the answer of `first_bound` to the sets of the masks.
 use borrow.Author.Needs.{needs}
-use Rattle.sets.specs.Words.{masks}
-use Rattle.bounds.specs.BoundCalls.{firstBoundReply}
-use Rattle.kadvisk.specs.Outcome.{outcome, itself}
 use Rattle.kadvisk.proofs.kadvisk_first_bound.Statement.{statement}
 use Rattle.kadvisk.proofs.kadvisk_first_bound.Tie as tie
 
-of-word-requires : tie.Need-of-word-requires
-of-word-requires c κs = search needs
-
-of-word-requires-2 : tie.Need-of-word-requires-2
-of-word-requires-2 c κs = search needs
-
-first-bound-requires : tie.Need-first-bound-requires
-first-bound-requires c κs = search needs
-
-bound-requires : tie.Need-bound-requires
-bound-requires c κs = search needs
-
 returns : tie.Need-returns
-returns c =
-    let a = c .before .before .before .before .before .args in
-    let sets = ap₂ (λ (x y : ℕ). firstBoundReply (masks (now (a .rows))) (a .slack) x y (a .v)) (c .before .before .before .of-word .ensures) (c .before .before .of-word2 .ensures) in
-    c .bound .ensures ∙ ap (outcome itself) (c .before .first-bound .ensures ∙ sets)
+returns c = rw (← c .before .before .before .of-word .ensures, ← c .before .before .of-word2 .ensures, ← c .before .first-bound .ensures) (c .bound .ensures)
 
 pub kadvisk-first-bound-spec : {M : Type 1} → statement M
-kadvisk-first-bound-spec = tie.close (tie.spec of-word-requires of-word-requires-2 first-bound-requires bound-requires returns)
+kadvisk-first-bound-spec = tie.close (tie.spec (λ c κs. search needs) (λ c κs. search needs) (λ c κs. search needs) (λ c κs. search needs) returns)

@@ -1,46 +1,42 @@
--- `sheets::read_rows` meets its contract: each answer by what the body was judged to be.
-use Prim.Native.Nat.{_-_, _≤_}
+-- What is below line 1 is judged before a row is stored: a refusal, or too few rows, leaves them all, and else the rows of the lines are stored.
+use Prim.Native.Nat.{ℕ, _≤_}
 use native.Mathlib.Omega.{arith}
-use mathlib.Core.Path.{sym}
-use denote.Ref.{now}
-use lib.ListN.{length, take, drop}
-use lib.Seq.{length-take-le}
-use Rattle.sets.specs.Words.{width, masks}
-use Rattle.sets.specs.Words.Operations.{offset-fits}
-use Rattle.sheets.specs.Sheet.{headingLength}
-use Rattle.sheets.specs.ReadLaws.{text-long, vertices-read, body-refused, room-refused, rows-read}
-use Rattle.sheets.specs.BodyLaws.{taken-lines, passed-right}
+use mathlib.Core.Path.{_≡_, sym}
+use mathlib.Core.List.{List}
 use borrow.Author.Needs.{needs}
+use denote.Ref.{now}
+use lib.ListN.{length}
+use lib.Seq.{length-take-le}
+use Rattle.sets.specs.Words.{masks}
+use Rattle.sets.specs.Words.Operations.{offset-fits}
+use Rattle.judging.specs.Refusal.{firstOf}
+use Rattle.judging.specs.Calls.{passed}
+use Rattle.judging.specs.CallLaws.{none-holds}
+use Rattle.sheets.specs.Sheet.{bodyCauses}
+use Rattle.sheets.specs.ReadLaws.{lentBody, heading-fits, vertices-read, body-refused, room-refused, rows-read}
+use Rattle.sheets.specs.BodyLaws.{taken-lines, passed-right}
 use Rattle.sheets.proofs.read_rows.Statement.{statement}
 use Rattle.sheets.proofs.read_rows.Tie as tie
 
-long : (c : tie.Start) → headingLength ≤ length (now (c .args .text))
-long c = text-long (c .args .n) (c .args .request) (now (c .args .text)) (c .pre)
-
-vertices : (c : tie.Start) → (1 ≤ c .args .n) × (c .args .n ≤ width)
-vertices c = vertices-read (c .args .n) (c .args .request) (now (c .args .text)) (c .pre)
-
 sub-below : tie.Need-sub-below
-sub-below c = long (c .before .before)
+sub-below c = heading-fits (c .before .before .pre)
 
 part-below-start : tie.Need-part-below-start
-part-below-start c = long (c .before .before)
+part-below-start c = heading-fits (c .before .before .pre)
 
 part-below-end : tie.Need-part-below-end
 part-below-end c = search needs
 
 check-body-requires : tie.Need-check-body-requires
-check-body-requires c κs = vertices (c .before .before .before)
+check-body-requires c κs = vertices-read (c .before .before .before .pre)
 
 enum-known-checked : tie.Need-enum-known-checked
 enum-known-checked c = search needs
 
 returns : tie.Need-returns
 returns c =
-    let s = c .before .before .before .before .before .before .before in
-    let judged = c .before .before .before .check-body in
-    body-refused (s .args .n) (s .args .request) (now (s .args .text)) (s .pre) (now (s .args .rows))
-    (judged .result) (judged .ensures) (c .before .checked .given .0 .0) (c .before .checked .given .1)
+    let start = c .before .before .before .before .before .before .before in
+    body-refused (start .pre) (c .before .checked .given .1) (c .before .before .before .check-body .ensures)
 
 enum-told : tie.Need-enum-told
 enum-told c = search needs
@@ -48,44 +44,55 @@ enum-told c = search needs
 count-requires : tie.Need-count-requires
 count-requires c κs = search needs
 
+-- ---- where it passed: the entry, the text below line 1, and that no cause holds
+
+abbrev start : tie.After-count → tie.Start
+start c = c .before .before .before .before .before .before .before .before
+
+abbrev below : tie.After-count → List ℕ
+below c = lentBody (now (start c .args .text))
+
+accepted : (c : tie.After-count) → firstOf (bodyCauses (start c .args .n) (below c)) passed ≡ passed
+accepted c =
+    let judged = c .before .before .before .before .check-body in
+    none-holds (bodyCauses (start c .args .n) (below c)) (judged .result) (judged .ensures) (c .before .before .enum-told .given .1)
+
 same-length : tie.Need-same-length
 same-length c = search needs
 
 returns-2 : tie.Need-returns-2
-returns-2 c =
-    let s = c .before .before .before .before .before .before .before .before .before in
-    let judged = c .before .before .before .before .before .check-body in
-    room-refused (s .args .n) (s .args .request) (now (s .args .text)) (s .pre) (now (s .args .rows))
-    (judged .result) (judged .ensures) (c .before .before .before .enum-told .given .1) (omega (arith, c .before .count .ensures))
+returns-2 c = let at = c .before in room-refused (start at .pre) (accepted at) (omega (arith, at .count .ensures))
 
--- there is room for the n rows
-room : (c : tie.Else1) → c .before .before .before .before .before .before .before .before .before .args .n
-    ≤ length (masks (now (c .before .before .before .before .before .before .before .before .before .args .rows)))
+-- ---- there is room for the n rows
+
+abbrev rows : tie.Else1 → List ℕ
+rows c = now (start (c .before) .args .rows)
+
+room : (c : tie.Else1) → start (c .before) .args .n ≤ length (masks (rows c))
 room c = omega (arith, c .before .count .ensures)
 
 offset-requires : tie.Need-offset-requires
 offset-requires c κs = room (c .before)
 
-abbrev start : tie.After-offset → tie.Start
-start c = c .before .before .before .before .before .before .before .before .before .before .before
+abbrev roomy : tie.After-offset → tie.Else1
+roomy c = c .before .before
 
-fits : (c : tie.After-offset) → c .offset .result ≤ length (now (start c .args .rows))
-fits c = offset-fits (start c .args .n) (c .offset .result) (now (start c .args .rows)) (c .offset .ensures) (room (c .before .before))
+fits : (c : tie.After-offset) → c .offset .result ≤ length (rows (roomy c))
+fits c = offset-fits (start (roomy c .before) .args .n) (c .offset .result) (rows (roomy c)) (c .offset .ensures) (room (roomy c))
 
 slice-relend-prefix-store-rows : tie.Need-slice-relend-prefix-store-rows
 slice-relend-prefix-store-rows c = fits c
 
 slice-aggregate-store-rows : tie.Need-slice-aggregate-store-rows
-slice-aggregate-store-rows c = sym (length-take-le (c .before .offset .result) (now (start (c .before) .args .rows)) (fits (c .before)))
+slice-aggregate-store-rows c = let cut = c .before in sym (length-take-le (cut .offset .result) (rows (roomy cut)) (fits cut))
 
 store-rows-requires : tie.Need-store-rows-requires
 store-rows-requires c κs =
-    let at = c .before in
-    let s = start at in
-    let judged = at .before .before .before .before .before .before .before .check-body in
-    let below = take (length (now (s .args .text)) - headingLength) (drop headingLength (now (s .args .text))) in
-    taken-lines (s .args .n) (at .offset .result) (at .offset .ensures) (now (s .args .rows)) below (room (at .before .before)) (vertices s .1)
-    (passed-right (s .args .n) below (judged .result) (judged .ensures) (at .before .before .before .before .before .enum-told .given .1))
+    let cut = c .before in
+    let at = roomy cut .before in
+    let n = start at .args .n in
+    taken-lines n (cut .offset .ensures) (rows (roomy cut)) (below at) (room (roomy cut)) (vertices-read (start at .pre) .1)
+    (passed-right n (below at) (accepted at))
 
 same-length-2 : tie.Need-same-length-2
 same-length-2 c = search needs
@@ -93,30 +100,12 @@ same-length-2 c = search needs
 returns-3 : tie.Need-returns-3
 returns-3 c =
     let store = c .before .before .store-rows in
-    let at = c .before .before .before .before in
-    let s = start at in
-    let judged = at .before .before .before .before .before .before .before .check-body in
-    rows-read (s .args .n) (s .args .request) (now (s .args .text)) (s .pre) (now (s .args .rows))
-    (judged .result) (judged .ensures) (at .before .before .before .before .before .enum-told .given .1)
-    (at .offset .result) (store .last .1 .0) (at .offset .ensures) (room (at .before .before)) (store .kept .1 .0) (store .ensures)
+    let cut = c .before .before .before .before in
+    let full = roomy cut in
+    let at = full .before in
+    rows-read (start at .pre) (accepted at) (rows full) (store .last .1 .0) (cut .offset .ensures) (room full) (store .kept .1 .0) (store .ensures)
 
 pub read-rows-spec : {M : Type 1} → statement M
 read-rows-spec =
-    tie.close
-    (tie.spec
-    sub-below
-    part-below-start
-    part-below-end
-    check-body-requires
-    enum-known-checked
-    returns
-    enum-told
-    count-requires
-    same-length
-    returns-2
-    offset-requires
-    slice-relend-prefix-store-rows
-    slice-aggregate-store-rows
-    store-rows-requires
-    same-length-2
-    returns-3)
+    tie.close (tie.spec sub-below part-below-start part-below-end check-body-requires enum-known-checked returns enum-told count-requires
+    same-length returns-2 offset-requires slice-relend-prefix-store-rows slice-aggregate-store-rows store-rows-requires same-length-2 returns-3)

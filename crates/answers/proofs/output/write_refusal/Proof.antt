@@ -1,12 +1,9 @@
--- `answers::output::write_refusal` meets its contract: four bytes are stored, and behind them the line of the value.
-use Prim.Native.Nat.{ℕ, _+_, _/_, _%_}
+-- Four bytes are stored, and behind them the line of the value is written: together they are the text of the refusal.
 use native.Mathlib.Omega.{arith}
-use mathlib.Core.Path.{ap, _∙_}
 use denote.Ref.{now}
 use lib.ListN.{length-set}
 use Rattle.judging.specs.Calls.{numberOf, valueOf}
-use Rattle.answers.specs.Output.{figureZero, refusalText, refusalLength}
-use Rattle.answers.specs.AnswerLaws.{length-refusal, refusal-written, writes-long}
+use Rattle.answers.specs.OutputLaws.{refusal-length, refusal-written, writes-length}
 use borrow.Author.Needs.{needs}
 use Rattle.answers.proofs.output.write_refusal.Statement.{statement}
 use Rattle.answers.proofs.output.write_refusal.Tie as tie
@@ -47,41 +44,27 @@ value-requires c κs = search needs
 write-line-requires : tie.Need-write-line-requires
 write-line-requires c κs = search needs
 
+abbrev start : tie.After-slice-known2 → tie.Start
+start c = c .before .before .before .before .before .before .before .before .before
+
 written : tie.Need-returns
 written c =
-    let s = c .before .before .before .before .before .before .before .before .before in
+    let a = start c .args in
+    let number = c .before .before .before .before .before .before .before .number in
     let tens = c .before .before .before .before .before .before .decimal in
     let units = c .before .before .before .before .before .decimal2 in
-    let number = c .before .before .before .before .before .before .before .number .ensures in
-    let value = c .before .before .before .value in
-    refusal-written (numberOf (s .args .refusal)) (valueOf (s .args .refusal)) (tens .result) (units .result) (value .result) (now (s .args .out)) (c .before .before .write-line .last .0) (s .pre)
-    (tens .ensures ∙ ap (λ (n : ℕ). (n / 10) % 10 + figureZero) number) (units .ensures ∙ ap (λ (n : ℕ). n % 10 + figureZero) number)
-    (value .ensures) (c .before .before .write-line .ensures)
+    refusal-written (numberOf (a .refusal)) (valueOf (a .refusal)) (now (a .out)) (start c .pre) (number .ensures)
+    (tens .ensures) (units .ensures) (c .before .before .before .value .ensures) (c .before .before .write-line .ensures)
 
 same-length : tie.Need-same-length
 same-length c =
-    let a = c .before .before .before .before .before .before .before .before .before .args in
-    writes-long (refusalText (numberOf (a .refusal)) (valueOf (a .refusal))) (now (a .out)) _ refusalLength (written c)
-    (omega (arith, length-refusal (numberOf (a .refusal)) (valueOf (a .refusal)), c .before .before .before .before .before .before .before .before .before .pre))
+    let f = start c .args .refusal in
+    writes-length (written c) (omega (arith, refusal-length (numberOf f) (valueOf f), start c .pre))
 
 returns : tie.Need-returns
 returns c = written c
 
 pub write-refusal-spec : {M : Type 1} → statement M
 write-refusal-spec =
-    tie.close
-    (tie.spec
-    number-requires
-    slice-write-out
-    decimal-requires
-    slice-write-out-2
-    decimal-requires-2
-    slice-write-out-3
-    slice-write-out-4
-    sub-write-line
-    part-write-line-start
-    part-write-line-end
-    value-requires
-    write-line-requires
-    same-length
-    returns)
+    tie.close (tie.spec number-requires slice-write-out decimal-requires slice-write-out-2 decimal-requires-2 slice-write-out-3 slice-write-out-4
+    sub-write-line part-write-line-start part-write-line-end value-requires write-line-requires same-length returns)

@@ -1,29 +1,13 @@
--- `kadvisk::answer::bound` meets its contract: each arm gives the outcome of the answer that it matched.
-use mathlib.Core.Path.{sym, ap, _∙_}
+-- Each arm gives the outcome of the answer that it matched: the answer is rewritten to what it is there.
 use borrow.Author.Needs.{needs}
-use Rattle.bounds.specs.BoundCalls.{boundFoundReply}
-use Rattle.bounds.specs.declared.BoundFound.{BoundFound}
-use Rattle.kadvisk.specs.Outcome.{outcome, itself}
 use Rattle.kadvisk.proofs.answer.bound.Statement.{statement}
 use Rattle.kadvisk.proofs.answer.bound.Tie as tie
 
-enum-known-answer : tie.Need-enum-known-answer
-enum-known-answer c = search needs
-
-found-requires : tie.Need-found-requires
-found-requires c κs = search needs
-
-enum-known-answer-2 : tie.Need-enum-known-answer-2
-enum-known-answer-2 c = search needs
-
-refused-requires : tie.Need-refused-requires
-refused-requires c κs = search needs
-
 returns : tie.Need-returns
-returns c = c .found .ensures ∙ sym (ap (λ (a : BoundFound). outcome itself (boundFoundReply a)) (c .before .before .answer .given .1))
+returns c = rw (c .before .before .answer .given .1) (c .found .ensures)
 
 returns-2 : tie.Need-returns-2
-returns-2 c = c .refused .ensures ∙ sym (ap (λ (a : BoundFound). outcome itself (boundFoundReply a)) (c .before .before .answer2 .given .1))
+returns-2 c = rw (c .before .before .answer2 .given .1) (c .refused .ensures)
 
 pub bound-spec : {M : Type 1} → statement M
-bound-spec = tie.close (tie.spec enum-known-answer found-requires enum-known-answer-2 refused-requires returns returns-2)
+bound-spec = tie.close (tie.spec (λ c. search needs) (λ c κs. search needs) (λ c. search needs) (λ c κs. search needs) returns returns-2)

@@ -1,29 +1,13 @@
--- `kadvisk::answer::listed` meets its contract: each arm gives the outcome of the answer that it matched.
-use mathlib.Core.Path.{sym, ap, _∙_}
+-- Each arm gives the outcome of the answer that it matched: the answer is rewritten to what it is there.
 use borrow.Author.Needs.{needs}
-use Rattle.search.specs.Calls.{listFoundReply}
-use Rattle.search.specs.declared.ListFound.{ListFound}
-use Rattle.kadvisk.specs.Outcome.{outcome, nothing}
 use Rattle.kadvisk.proofs.answer.listed.Statement.{statement}
 use Rattle.kadvisk.proofs.answer.listed.Tie as tie
 
-enum-known-answer : tie.Need-enum-known-answer
-enum-known-answer c = search needs
-
-valued-requires : tie.Need-valued-requires
-valued-requires c κs = search needs
-
-enum-known-answer-2 : tie.Need-enum-known-answer-2
-enum-known-answer-2 c = search needs
-
-refused-requires : tie.Need-refused-requires
-refused-requires c κs = search needs
-
 returns : tie.Need-returns
-returns c = c .valued .ensures ∙ sym (ap (λ (a : ListFound). outcome nothing (listFoundReply a)) (c .before .before .answer .given .1))
+returns c = rw (c .before .before .answer .given .1) (c .valued .ensures)
 
 returns-2 : tie.Need-returns-2
-returns-2 c = c .refused .ensures ∙ sym (ap (λ (a : ListFound). outcome nothing (listFoundReply a)) (c .before .before .answer2 .given .1))
+returns-2 c = rw (c .before .before .answer2 .given .1) (c .refused .ensures)
 
 pub listed-spec : {M : Type 1} → statement M
-listed-spec = tie.close (tie.spec enum-known-answer valued-requires enum-known-answer-2 refused-requires returns returns-2)
+listed-spec = tie.close (tie.spec (λ c. search needs) (λ c κs. search needs) (λ c. search needs) (λ c κs. search needs) returns returns-2)

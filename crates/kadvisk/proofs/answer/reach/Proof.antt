@@ -1,39 +1,18 @@
--- `kadvisk::answer::reach` meets its contract: each arm gives the outcome of the answer that it matched.
-use Prim.Native.Nat.{ℕ}
-use mathlib.Core.Path.{sym, ap, _∙_}
+-- Each arm gives the outcome of the answer that it matched; at one word per set the word of the set found is its mask.
 use borrow.Author.Needs.{needs}
 use Rattle.sets.specs.Words.Operations.{word-mask}
-use Rattle.judging.specs.Refusal.{answered}
-use Rattle.bounds.specs.Calls.{reachFoundReply}
-use Rattle.bounds.specs.declared.ReachFound.{ReachFound}
-use Rattle.kadvisk.specs.Outcome.{outcome, itself}
 use Rattle.kadvisk.proofs.answer.reach.Statement.{statement}
 use Rattle.kadvisk.proofs.answer.reach.Tie as tie
-
-enum-known-answer : tie.Need-enum-known-answer
-enum-known-answer c = search needs
-
-word-requires : tie.Need-word-requires
-word-requires c κs = search needs
-
-found-requires : tie.Need-found-requires
-found-requires c κs = search needs
-
-enum-known-answer-2 : tie.Need-enum-known-answer-2
-enum-known-answer-2 c = search needs
-
-refused-requires : tie.Need-refused-requires
-refused-requires c κs = search needs
 
 returns : tie.Need-returns
 returns c =
     let told = c .before .before .before .answer .given in
-    c .found .ensures
-    ∙ ap (λ (x : ℕ). outcome itself (answered 0 x)) (c .before .word .ensures ∙ word-mask (told .0 .0))
-    ∙ sym (ap (λ (a : ReachFound). outcome itself (reachFoundReply a)) (told .1))
+    rw (told .1, ← word-mask (told .0 .0), ← c .before .word .ensures) (c .found .ensures)
 
 returns-2 : tie.Need-returns-2
-returns-2 c = c .refused .ensures ∙ sym (ap (λ (a : ReachFound). outcome itself (reachFoundReply a)) (c .before .before .answer2 .given .1))
+returns-2 c = rw (c .before .before .answer2 .given .1) (c .refused .ensures)
 
 pub reach-spec : {M : Type 1} → statement M
-reach-spec = tie.close (tie.spec enum-known-answer word-requires found-requires enum-known-answer-2 refused-requires returns returns-2)
+reach-spec =
+    tie.close (tie.spec (λ c. search needs) (λ c κs. search needs) (λ c κs. search needs) (λ c. search needs) (λ c κs. search needs) returns
+    returns-2)

@@ -1,19 +1,19 @@
--- `sheets::body::check_body` meets its contract: the lines first, and then the rows, which a table of its own takes.
-use native.Mathlib.Omega.{arith}
+-- The first wrong line, or what stands after the last one, is told; and else the rows, which a table of its own takes, are judged as a graph.
 use Prim.Native.Nat.{ℕ, _*_, _≤_}
+use native.Mathlib.Omega.{arith}
 use mathlib.Core.Path.{_≡_, sym, ap, _∙_}
-use denote.Ref.{now}
 use mathlib.Core.List.{List}
+use borrow.Author.Needs.{needs}
+use denote.Ref.{now}
 use lib.ListN.{length, drop}
 use lib.Seq.{length-take-le}
 use Rattle.sets.specs.Words.{perSet, width, masks}
 use Rattle.sets.specs.Words.Groups.{blank}
 use Rattle.sets.specs.Words.Operations.{offset-fits}
-use Rattle.sheets.specs.Lines.{rightLines, numbers}
+use Rattle.sheets.specs.Lines.{numbers}
 use Rattle.sheets.specs.Sheet.{rowDigits}
-use Rattle.sheets.specs.BodyLaws.{line-refused, all-right, after-refused, lines-passed, table-rows, taken-rows, taken-lines}
+use Rattle.sheets.specs.BodyLaws.{line-refused, all-right, after-refused, lines-accepted, table-fits, taken-rows, taken-lines}
 use Rattle.sheets.specs.BodyLaws.{front-fits, front-length, front-sized, front-judged}
-use borrow.Author.Needs.{needs}
 use Rattle.sheets.proofs.body.check_body.Statement.{statement}
 use Rattle.sheets.proofs.body.check_body.Tie as tie
 
@@ -24,7 +24,7 @@ add-t7 : tie.Need-add-t7
 add-t7 c = search needs
 
 returns : tie.Need-returns
-returns c = let s = c .before .before .before in line-refused (s .args .n) (c .before .right-rows .result) (now (s .args .text)) (c .before .right-rows .ensures) (omega arith)
+returns c = let a = c .before .before .before .args in line-refused (a .n) (now (a .text)) (c .before .right-rows .ensures) (omega arith)
 
 mul-if2 : tie.Need-mul-if2
 mul-if2 c = search needs
@@ -34,8 +34,8 @@ add-t11 c = search needs
 
 returns-2 : tie.Need-returns-2
 returns-2 c =
-    let s = c .before .before .before .before in
-    after-refused (s .args .n) (c .before .before .right-rows .result) (now (s .args .text)) (c .before .before .right-rows .ensures) (omega arith) (omega arith)
+    let a = c .before .before .before .before .args in
+    after-refused (a .n) (now (a .text)) (c .before .before .right-rows .ensures) (omega arith) (omega arith)
 
 -- the table before a row is stored
 abbrev table : List ℕ
@@ -45,7 +45,7 @@ slice-aggregate-offset : tie.Need-slice-aggregate-offset
 slice-aggregate-offset c = search needs
 
 offset-requires : tie.Need-offset-requires
-offset-requires c κs = let s = c .before .before .before .before .before in table-rows (s .args .n) (s .pre .1)
+offset-requires c κs = let s = c .before .before .before .before .before in table-fits (s .args .n) (s .pre .1)
 
 -- the part that is lent: n sets up to the word `end`
 abbrev start : tie.After-offset → tie.Start
@@ -55,15 +55,10 @@ abbrev end : tie.After-offset → ℕ
 end c = c .offset .result
 
 room : (c : tie.After-offset) → start c .args .n ≤ length (masks table)
-room c = table-rows (start c .args .n) (start c .pre .1)
+room c = table-fits (start c .args .n) (start c .pre .1)
 
 long : (c : tie.After-offset) → end c ≤ length table
 long c = offset-fits (start c .args .n) (end c) table (c .offset .ensures) (room c)
-
-right : (c : tie.After-offset) → rightLines rowDigits (start c .args .n) (now (start c .args .text)) ≡ start c .args .n
-right c =
-    let found = c .before .before .before .before .right-rows in
-    all-right (start c .args .n) (found .result) (now (start c .args .text)) (found .ensures) (omega arith)
 
 array-borrow-prefix-table : tie.Need-array-borrow-prefix-table
 array-borrow-prefix-table c = long c
@@ -73,8 +68,11 @@ slice-aggregate-store-rows c = sym (length-take-le (end (c .before)) table (long
 
 store-rows-requires : tie.Need-store-rows-requires
 store-rows-requires c κs =
-    let s = start (c .before) in
-    taken-lines (s .args .n) (end (c .before)) (c .before .offset .ensures) table (now (s .args .text)) (room (c .before)) (s .pre .1) (right (c .before))
+    let at = c .before in
+    let s = start at in
+    let text = now (s .args .text) in
+    let right = all-right (s .args .n) text (at .before .before .before .before .right-rows .ensures) (omega arith) in
+    taken-lines (s .args .n) (at .offset .ensures) table text (room at) (s .pre .1) right
 
 -- the table once the rows are stored: its front, and what stands behind them
 abbrev lent : tie.After-store-rows → tie.After-offset
@@ -91,55 +89,36 @@ stored-long c = c .store-rows .kept .1 .0 ∙ length-take-le (end (lent c)) tabl
 
 stored-rows : (c : tie.After-store-rows) → masks (stored c) ≡ numbers rowDigits (start (lent c) .args .n) (now (start (lent c) .args .text))
 stored-rows c =
-    let s = start (lent c) in
-    c .store-rows .ensures
-    ∙ ap (λ (m : ℕ). numbers rowDigits m (now (s .args .text))) (taken-rows (s .args .n) (end (lent c)) (lent c .offset .ensures) table (room (lent c)))
+    let a = start (lent c) .args in
+    c .store-rows .ensures ∙ ap (λ (m : ℕ). numbers rowDigits m (now (a .text))) (taken-rows (a .n) (lent c .offset .ensures) table (room (lent c)))
 
 array-share-prefix-table : tie.Need-array-share-prefix-table
 array-share-prefix-table c =
-    let at = lent (c .before) in
-    front-fits (start at .args .n) (end at) (at .offset .ensures) (stored (c .before)) (behind (c .before)) (stored-long (c .before))
+    let store = c .before in
+    front-fits (start (lent store) .args .n) (lent store .offset .ensures) (stored store) (behind store) (stored-long store)
 
 slice-aggregate-check-edges : tie.Need-slice-aggregate-check-edges
 slice-aggregate-check-edges c =
     let store = c .before .before in
-    let at = lent store in
-    front-length (start at .args .n) (end at) (at .offset .ensures) (stored store) (behind store) (stored-long store)
+    front-length (start (lent store) .args .n) (lent store .offset .ensures) (stored store) (behind store) (stored-long store)
 
 check-edges-requires : tie.Need-check-edges-requires
 check-edges-requires c κs =
     let store = c .before .before in
-    let at = lent store in
-    let s = start at in
-    front-sized (s .args .n) (end at) (at .offset .ensures) (stored store) (behind store) (stored-long store) (s .pre .0) (s .pre .1)
+    let s = start (lent store) in
+    front-sized (s .args .n) (lent store .offset .ensures) (stored store) (behind store) (stored-long store) (s .pre .0) (s .pre .1)
 
 returns-3 : tie.Need-returns-3
 returns-3 c =
     let store = c .before .before .before in
     let at = lent store in
-    let s = start at in
-    let found = at .before .before .before .before .right-rows in
-    let g = numbers rowDigits (s .args .n) (now (s .args .text)) in
+    let a = start at .args in
     c .check-edges .ensures
-    ∙ front-judged (s .args .n) (end at) (at .offset .ensures) (stored store) (behind store) (stored-long store) g (stored-rows store)
-    ∙ lines-passed (s .args .n) (found .result) (now (s .args .text)) (found .ensures) (omega arith) (omega arith)
+    ∙ front-judged (a .n) (at .offset .ensures) (stored store) (behind store) (stored-long store) (stored-rows store)
+    ∙ lines-accepted (a .n) (now (a .text)) (at .before .before .before .before .right-rows .ensures) (omega arith) (omega arith)
 
 pub check-body-spec : {M : Type 1} → statement M
 check-body-spec =
-    tie.close
-    (tie.spec
-    right-rows-requires
-    add-t7
-    returns
-    mul-if2
-    add-t11
-    returns-2
-    slice-aggregate-offset
-    offset-requires
-    array-borrow-prefix-table
-    slice-aggregate-store-rows
-    store-rows-requires
-    array-share-prefix-table
-    slice-aggregate-check-edges
-    check-edges-requires
-    returns-3)
+    tie.close (tie.spec right-rows-requires add-t7 returns mul-if2 add-t11 returns-2 slice-aggregate-offset offset-requires
+    array-borrow-prefix-table slice-aggregate-store-rows store-rows-requires array-share-prefix-table slice-aggregate-check-edges
+    check-edges-requires returns-3)

@@ -1,4 +1,4 @@
--- `sheets::body::read_row` meets its contract.
+-- The mask of the set of a word is the word, and the word is the number of the digits.
 use mathlib.Core.Path.{_∙_}
 use borrow.Author.Needs.{needs}
 use Rattle.sheets.proofs.body.read_row.Statement.{statement}

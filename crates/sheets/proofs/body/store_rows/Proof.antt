@@ -1,20 +1,19 @@
--- `sheets::body::store_rows` meets its contract. The invariant: the rows passed hold the numbers of their lines, and the others are as they were.
-use Rattle.sets.specs.Words.Operations.{count-masks}
-use Prim.Native.Nat.{_+_, _-_, _*_, _≤_}
+-- The rows passed hold the numbers of their lines, and the others are as they were (Storing): each turn stores one number more.
+use Prim.Native.Nat.{_-_}
 use native.Mathlib.Omega.{arith}
 use mathlib.Core.Path.{_≡_, refl, _∙_}
-use mathlib.Core.List.{_++_}
 use denote.Ref.{now}
-use lib.ListN.{length, drop, length-take}
-use Rattle.sets.specs.Words.{mask, masks}
-use Rattle.sheets.specs.Lines.{numbers}
-use Rattle.sheets.specs.Sheet.{rowDigits, rowLength}
-use Rattle.sheets.specs.LineLaws.{line-fits, line-digits, store-start, store-more, store-all}
+use lib.ListN.{length}
+use Rattle.sets.specs.Words.{masks}
+use Rattle.sets.specs.Words.Operations.{count-masks}
+use Rattle.sheets.specs.Sheet.{rowDigits}
+use Rattle.sheets.specs.LineLaws.{Storing, storing-none, storing-more, storing-all}
+use Rattle.sheets.specs.BodyLaws.{row-fits, row-readable}
 use Rattle.sheets.proofs.body.store_rows.Statement.{statement}
 use Rattle.sheets.proofs.body.store_rows.Tie as tie
 
 abbrev Inv-loop : tie.InvT-loop
-Inv-loop text rows₀ n a₀ rows a = (a ≤ n) × (n ≡ length (masks rows₀)) × (length rows ≡ length rows₀) × (masks rows ≡ numbers rowDigits a text ++ drop a (masks rows₀))
+Inv-loop text rows₀ n a₀ rows a = (n ≡ length (masks rows₀)) × (length rows ≡ length rows₀) × Storing rowDigits text (masks rows₀) (masks rows) a
 
 abbrev μ-loop : tie.MeasureT-loop
 μ-loop text rows₀ n a₀ rows a = n - a
@@ -23,9 +22,7 @@ count-requires : tie.Need-count-requires Inv-loop μ-loop
 count-requires c κs = tt
 
 loop-holds : tie.Need-loop-holds Inv-loop μ-loop
-loop-holds c =
-    let a = c .before .before .before .before .args in
-    (omega arith, c .count .ensures, refl, store-start rowDigits (now (a .text)) (masks (now (a .rows))))
+loop-holds c = (c .count .ensures, refl, storing-none)
 
 mul-at : tie.Need-mul-at Inv-loop μ-loop
 mul-at c = omega arith
@@ -41,21 +38,18 @@ part-read-row-start c = omega arith
 
 part-read-row-end : tie.Need-part-read-row-end Inv-loop μ-loop
 part-read-row-end c =
-    let s = c .before .before .before .before .before .before .before in
-    omega (arith, line-fits rowDigits (length (masks (now (s .args .rows)))) (c .before .before .loop .a) (now (s .args .text)) (s .pre .right) (omega arith))
+    let start = c .before .before .before .before .before .before .before in
+    omega (arith, row-fits (start .pre) (c .before .before .loop .a) (omega arith))
 
 read-row-requires : tie.Need-read-row-requires Inv-loop μ-loop
 read-row-requires c κs =
-    let s = c .before .before .before .before .before .before .before .before in
-    let a = c .before .before .before .loop .a in
-    let t = now (s .args .text) in
-    let n = length (masks (now (s .args .rows))) in
-    record { digit = line-digits rowDigits n a t (s .pre .right) (omega arith); short = omega (arith, length-take ((a * rowLength + rowDigits) - a * rowLength) (drop (a * rowLength) t)) }
+    let start = c .before .before .before .before .before .before .before .before in
+    row-readable (start .pre) (c .before .before .before .loop .a) (omega arith)
 
 put-requires : tie.Need-put-requires Inv-loop μ-loop
 put-requires c κs =
-    let s = c .before .before .before .before .before .before .before .before .before in
-    omega (arith, count-masks (now (s .args .rows)), count-masks (c .before .before .before .before .loop .rows))
+    let start = c .before .before .before .before .before .before .before .before .before in
+    omega (arith, count-masks (now (start .args .rows)), count-masks (c .before .before .before .before .loop .rows))
 
 add-a : tie.Need-add-a Inv-loop μ-loop
 add-a c = omega arith
@@ -65,42 +59,18 @@ loop-less c = omega arith
 
 loop-again : tie.Need-loop-again Inv-loop μ-loop
 loop-again c =
-    let s = c .before .before .before .before .before .before .before .before .before .before .before .before in
-    let at = c .before .before .before .before .before .before .before .loop in
-    let ms = masks (now (s .args .rows)) in (
-      omega arith,
-      at .inv .1,
-      c .before .before .put .kept .0 ∙ at .inv .2,
-      c .before .before .put .ensures
-          ∙ store-more rowDigits (at .a) (mask (c .before .before .before .read-row .result)) (now (s .args .text)) ms (masks (at .rows)) (omega arith) (at .inv .3)
-          (c .before .before .before .read-row .ensures),
-    )
+    let turn = c .before .before .before .before .before .before .before .loop in
+    let put = c .before .before .put in
+    let read = c .before .before .before .read-row in
+    (turn .inv .0, put .kept .0 ∙ turn .inv .1, storing-more (turn .inv .2) (omega arith) (read .ensures) (put .ensures))
 
 same-length : tie.Need-same-length Inv-loop μ-loop
-same-length c = c .before .loop .inv .2
+same-length c = c .before .loop .inv .1
 
 returns : tie.Need-returns Inv-loop μ-loop
-returns c =
-    let s = c .before .before .before .before .before .before in
-    c .before .loop .inv .3 ∙ store-all rowDigits (c .before .loop .a) (now (s .args .text)) (masks (now (s .args .rows))) (omega arith)
+returns c = storing-all (c .before .loop .inv .2) (omega arith)
 
 pub store-rows-spec : {M : Type 1} → statement M
 store-rows-spec =
-    tie.close
-    (tie.spec
-    Inv-loop
-    μ-loop
-    count-requires
-    loop-holds
-    mul-at
-    add-end
-    sub-read-row
-    part-read-row-start
-    part-read-row-end
-    read-row-requires
-    put-requires
-    add-a
-    loop-less
-    loop-again
-    same-length
-    returns)
+    tie.close (tie.spec Inv-loop μ-loop count-requires loop-holds mul-at add-end sub-read-row part-read-row-start part-read-row-end
+    read-row-requires put-requires add-a loop-less loop-again same-length returns)

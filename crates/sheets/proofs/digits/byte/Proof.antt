@@ -1,4 +1,4 @@
--- `sheets::digits::byte` meets its contract: each branch is a case of the definition.
+-- Each branch is a case of the definition: the figures below 10, and the letters from there on.
 use Rattle.sheets.specs.DigitLaws.{byte-figure, byte-letter}
 use mathlib.Core.Path.{sym}
 use borrow.Author.Needs.{needs}
@@ -24,5 +24,4 @@ returns-2 : tie.Need-returns-2
 returns-2 c = sym (byte-letter (c .before .args .d) (c .if1 .left))
 
 pub byte-spec : {M : Type 1} → statement M
-byte-spec =
-    tie.close (tie.spec add-result cast-result add-result-2 cast-result-2 returns returns-2)
+byte-spec = tie.close (tie.spec add-result cast-result add-result-2 cast-result-2 returns returns-2)

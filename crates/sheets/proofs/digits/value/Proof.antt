@@ -1,4 +1,4 @@
--- `sheets::digits::value` meets its contract: each arm is a case of the definition.
+-- Each arm is a case of the definition: a figure, a letter, or what is below, between or above them.
 use Rattle.sheets.specs.DigitLaws.{value-figure, value-letter, value-below, value-amid, value-above}
 use native.Mathlib.Omega.{arith}
 use mathlib.Core.Path.{sym}
@@ -31,6 +31,4 @@ returns-5 : tie.Need-returns-5
 returns-5 c = sym (value-above (c .before .before .before .before .args .b) (omega arith))
 
 pub value-spec : {M : Type 1} → statement M
-value-spec =
-    tie.close
-    (tie.spec cast-result sub-result cast-result-2 returns returns-2 returns-3 returns-4 returns-5)
+value-spec = tie.close (tie.spec cast-result sub-result cast-result-2 returns returns-2 returns-3 returns-4 returns-5)

@@ -1,18 +1,17 @@
--- `sheets::heading::read_heading` meets its contract: one cause after the other, each by its test.
+-- The code asks one cause after the other, as the definition does: each test that fails is the first cause that holds, and where none does line 1 is read.
 use Prim.Native.Nat.{ℕ, _*_, _-_}
 use native.Mathlib.Omega.{arith}
-use mathlib.Core.Path.{_≡_, sym, ap, ap₂, _∙_}
+use mathlib.Core.Path.{_≡_, refl, sym, _∙_}
 use mathlib.Core.Bool.{Bool, true, false}
+use mathlib.Core.List.{List}
+use borrow.Author.Needs.{needs}
 use borrow.Author.Tests.{not-true, not-false}
 use denote.Ref.{now}
-use Rattle.judging.specs.Refusal.{answered, outside, mostVertices, mostSlack}
+use Rattle.judging.specs.Refusal.{outside, mostVertices, mostSlack}
 use Rattle.judging.specs.RefusalLaws.{within-range}
-use Rattle.judging.specs.CallLaws.{not-accepted, accepted}
 use Rattle.sheets.specs.Lines.{isLine}
-use Rattle.sheets.specs.Sheet.{headingDigits, vertexField, slackField, floorField}
-use Rattle.sheets.specs.Calls.{headingIn}
-use Rattle.sheets.specs.HeadingLaws.{heading-refused, vertices-refused, slack-refused, floor-refused, heading-passed, heading-same}
-use borrow.Author.Needs.{needs}
+use Rattle.sheets.specs.Sheet.{headingDigits, vertexField, slackField}
+use Rattle.sheets.specs.HeadingLaws.{field-refused, field-accepted, heading-refused, vertices-refused, slack-refused, floor-refused, heading-accepted}
 use Rattle.sheets.proofs.heading.read_heading.Statement.{statement}
 use Rattle.sheets.proofs.heading.read_heading.Tie as tie
 
@@ -21,31 +20,16 @@ is-line-requires c κs = search needs
 
 returns : tie.Need-returns
 returns c =
-    let t = now (c .before .before .before .args .text) in
-    heading-refused t (answered 0 (headingIn t)) (sym (c .before .is-line .ensures) ∙ not-true (c .before .is-line .result) (c .if1 .taken))
+    let test = c .before .is-line in
+    heading-refused (now (c .before .before .before .args .text)) (sym (test .ensures) ∙ not-true (test .result) (c .if1 .taken))
 
--- what each test that was passed says of line 1
-right : (c : tie.Else1) → isLine headingDigits (now (c .before .before .before .args .text)) ≡ true
-right c = sym (c .before .is-line .ensures) ∙ not-false (c .before .is-line .result) (c .if1 .left)
+-- ---- line 1 is laid out right
 
-vertices-in : (c : tie.Else2) → outside 1 mostVertices (vertexField (now (c .before .before .before .before .before .before .args .text))) ≡ false
-vertices-in c =
-    ap (outside 1 mostVertices) (sym (c .before .before .field .ensures))
-    ∙ accepted (c .before .vertices-accepted .result) (outside 1 mostVertices (c .before .before .field .result)) (c .before .vertices-accepted .ensures) (c .if2 .left)
+abbrev text : tie.Else1 → List ℕ
+text c = now (c .before .before .before .args .text)
 
-slack-taken : (c : tie.Else3) → outside 1 mostSlack (c .before .before .field2 .result) ≡ false
-slack-taken c = accepted (c .before .slack-accepted .result) (outside 1 mostSlack (c .before .before .field2 .result)) (c .before .slack-accepted .ensures) (c .if3 .left)
-
-slack-in : (c : tie.Else3) → outside 1 mostSlack (slackField (now (c .before .before .before .before .before .before .before .before .before .args .text))) ≡ false
-slack-in c = ap (outside 1 mostSlack) (sym (c .before .before .field2 .ensures)) ∙ slack-taken c
-
-abbrev floor-test : tie.After-field3 → Bool
-floor-test c = outside (2 * c .before .before .before .field2 .result - 1) mostVertices (c .field3 .result)
-
-floor-at : (c : tie.After-field3)
-    → outside (2 * slackField (now (c .before .before .before .before .before .before .before .before .before .before .args .text)) - 1) mostVertices (floorField (now (c .before .before .before .before .before .before .before .before .before .before .args .text)))
-    ≡ floor-test c
-floor-at c = ap₂ (λ (x y : ℕ). outside (2 * x - 1) mostVertices y) (sym (c .before .before .before .field2 .ensures)) (sym (c .field3 .ensures))
+right : (c : tie.Else1) → isLine headingDigits (text c) ≡ true
+right c = let test = c .before .is-line in sym (test .ensures) ∙ not-false (test .result) (c .if1 .left)
 
 field-requires : tie.Need-field-requires
 field-requires c κs = record { inside = omega arith; right = right c }
@@ -55,60 +39,68 @@ vertices-accepted-requires c κs = search needs
 
 returns-2 : tie.Need-returns-2
 returns-2 c =
-    let t = now (c .before .before .before .before .before .before .args .text) in
-    vertices-refused t (answered 0 (headingIn t)) (right (c .before .before .before))
-    (ap (outside 1 mostVertices) (sym (c .before .before .field .ensures))
-    ∙ not-accepted (c .before .vertices-accepted .result) (outside 1 mostVertices (c .before .before .field .result)) (c .before .vertices-accepted .ensures) (c .if2 .taken))
+    let line = c .before .before .before in
+    vertices-refused (text line) (right line)
+    (field-refused (outside 1 mostVertices) (c .before .before .field .ensures) (c .before .vertices-accepted .ensures) (c .if2 .taken))
+
+-- ---- its n is accepted
+
+abbrev line-of : tie.Else2 → tie.Else1
+line-of c = c .before .before .before
+
+n-in : (c : tie.Else2) → outside 1 mostVertices (vertexField (text (line-of c))) ≡ false
+n-in c = field-accepted (outside 1 mostVertices) (c .before .before .field .ensures) (c .before .vertices-accepted .ensures) (c .if2 .left)
 
 field-requires-2 : tie.Need-field-requires-2
-field-requires-2 c κs = record { inside = omega arith; right = right (c .before .before .before) }
+field-requires-2 c κs = record { inside = omega arith; right = right (line-of c) }
 
 slack-accepted-requires : tie.Need-slack-accepted-requires
 slack-accepted-requires c κs = search needs
 
 returns-3 : tie.Need-returns-3
 returns-3 c =
-    let t = now (c .before .before .before .before .before .before .before .before .before .args .text) in
-    slack-refused t (answered 0 (headingIn t)) (right (c .before .before .before .before .before .before)) (vertices-in (c .before .before .before))
-    (ap (outside 1 mostSlack) (sym (c .before .before .field2 .ensures))
-    ∙ not-accepted (c .before .slack-accepted .result) (outside 1 mostSlack (c .before .before .field2 .result)) (c .before .slack-accepted .ensures) (c .if3 .taken))
+    let first = c .before .before .before in
+    slack-refused (text (line-of first)) (right (line-of first)) (n-in first)
+    (field-refused (outside 1 mostSlack) (c .before .before .field2 .ensures) (c .before .slack-accepted .ensures) (c .if3 .taken))
+
+-- ---- its k is accepted
+
+abbrev n-of : tie.Else3 → tie.Else2
+n-of c = c .before .before .before
+
+abbrev slack : tie.Else3 → ℕ
+slack c = c .before .before .field2 .result
+
+k-in : (c : tie.Else3) → outside 1 mostSlack (slackField (text (line-of (n-of c)))) ≡ false
+k-in c = field-accepted (outside 1 mostSlack) (c .before .before .field2 .ensures) (c .before .slack-accepted .ensures) (c .if3 .left)
 
 field-requires-3 : tie.Need-field-requires-3
-field-requires-3 c κs = record { inside = omega arith; right = right (c .before .before .before .before .before .before) }
+field-requires-3 c κs = record { inside = omega arith; right = right (line-of (n-of c)) }
 
 floor-accepted-requires : tie.Need-floor-accepted-requires
-floor-accepted-requires c κs = within-range 1 mostSlack (c .before .before .before .field2 .result) (slack-taken (c .before))
+floor-accepted-requires c κs =
+    let k = c .before in
+    within-range 1 mostSlack (slack k) (field-accepted (outside 1 mostSlack) refl (k .before .slack-accepted .ensures) (k .if3 .left))
+
+abbrev floor-test : tie.Else3 → ℕ → Bool
+floor-test c = outside (2 * slack c - 1) mostVertices
 
 returns-4 : tie.Need-returns-4
 returns-4 c =
-    let t = now (c .before .before .before .before .before .before .before .before .before .before .before .before .args .text) in
-    floor-refused t (answered 0 (headingIn t)) (right (c .before .before .before .before .before .before .before .before .before)) (vertices-in (c .before .before .before .before .before .before)) (slack-in (c .before .before .before))
-    (floor-at (c .before .before)
-    ∙ not-accepted (c .before .floor-accepted .result) (floor-test (c .before .before)) (c .before .floor-accepted .ensures) (c .if4 .taken))
+    let k = c .before .before .before in
+    let n = n-of k in
+    floor-refused (text (line-of n)) (right (line-of n)) (n-in n) (k-in k) (k .before .before .field2 .ensures)
+    (field-refused (floor-test k) (c .before .before .field3 .ensures) (c .before .floor-accepted .ensures) (c .if4 .taken))
 
 returns-5 : tie.Need-returns-5
 returns-5 c =
-    let t = now (c .before .before .before .before .before .before .before .before .before .before .before .before .args .text) in
-    ap (answered 0)
-    (heading-same t (c .before .before .before .before .before .before .before .before .field .result) (c .before .before .before .before .before .field2 .result) (c .before .before .field3 .result)
-    (c .before .before .before .before .before .before .before .before .field .ensures) (c .before .before .before .before .before .field2 .ensures) (c .before .before .field3 .ensures))
-    ∙ heading-passed t (answered 0 (headingIn t)) (right (c .before .before .before .before .before .before .before .before .before)) (vertices-in (c .before .before .before .before .before .before)) (slack-in (c .before .before .before))
-    (floor-at (c .before .before)
-    ∙ accepted (c .before .floor-accepted .result) (floor-test (c .before .before)) (c .before .floor-accepted .ensures) (c .if4 .left))
+    let k = c .before .before .before in
+    let n = n-of k in
+    let floor = c .before .before .field3 .ensures in
+    heading-accepted (text (line-of n)) (right (line-of n)) (n-in n) (k-in k) (k .before .before .field2 .ensures)
+    (field-accepted (floor-test k) floor (c .before .floor-accepted .ensures) (c .if4 .left)) (n .before .before .field .ensures) floor
 
 pub read-heading-spec : {M : Type 1} → statement M
 read-heading-spec =
-    tie.close
-    (tie.spec
-    is-line-requires
-    returns
-    field-requires
-    vertices-accepted-requires
-    returns-2
-    field-requires-2
-    slack-accepted-requires
-    returns-3
-    field-requires-3
-    floor-accepted-requires
-    returns-4
-    returns-5)
+    tie.close (tie.spec is-line-requires returns field-requires vertices-accepted-requires returns-2 field-requires-2 slack-accepted-requires
+    returns-3 field-requires-3 floor-accepted-requires returns-4 returns-5)

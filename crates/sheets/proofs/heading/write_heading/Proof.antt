@@ -1,4 +1,4 @@
--- `sheets::heading::write_heading` meets its contract: a field after the other, and then the byte at the end.
+-- Three fields are written one behind the other, and then the byte that ends the line: together they are line 1.
 use native.Mathlib.Omega.{arith}
 use mathlib.Core.Path.{refl, ap, _∙_}
 use denote.Ref.{now}
@@ -48,19 +48,21 @@ write-requires-3 c κs = search needs
 slice-write-text : tie.Need-slice-write-text
 slice-write-text c = search needs
 
+-- the entry, and the three calls that write a field
+abbrev start : tie.After-slice-known4 → tie.Start
+start c = c .before .before .before .before .before .before .before .before .before .before .before .before .before
+
 filled : tie.Need-returns
 filled c =
-    let s = c .before .before .before .before .before .before .before .before .before .before .before .before .before in
-    heading-filled (s .args .n) (asked (s .args .request)) (now (s .args .text))
-    (c .before .before .before .before .before .before .before .before .before .before .write .last .0) (c .before .before .before .before .before .before .write2 .last .0) (c .before .before .write3 .last .0)
-    _ _ _ (s .pre)
-    (c .before .before .before .before .before .before .before .before .before .before .write .ensures) refl
-    (c .before .before .before .before .before .before .write2 .ensures) refl
-    (c .before .before .write3 .ensures) refl
+    let n = c .before .before .before .before .before .before .before .before .before .before .write in
+    let slack = c .before .before .before .before .before .before .write2 in
+    let floor = c .before .before .write3 in
+    let s = start c in
+    heading-filled (s .args .n) (asked (s .args .request)) (now (s .args .text)) (s .pre) (n .ensures) refl (slack .ensures) refl (floor .ensures) refl
 
 same-length : tie.Need-same-length
 same-length c =
-    let a = c .before .before .before .before .before .before .before .before .before .before .before .before .before .args in
+    let a = start c .args in
     ap length (filled c) ∙ heading-keeps-length (a .n) (asked (a .request)) (now (a .text)) (omega arith)
 
 returns : tie.Need-returns
@@ -68,20 +70,5 @@ returns c = filled c
 
 pub write-heading-spec : {M : Type 1} → statement M
 write-heading-spec =
-    tie.close
-    (tie.spec
-    sub-write
-    part-write-start
-    part-write-end
-    write-requires
-    sub-write-2
-    part-write-start-2
-    part-write-end-2
-    write-requires-2
-    sub-write-3
-    part-write-start-3
-    part-write-end-3
-    write-requires-3
-    slice-write-text
-    same-length
-    returns)
+    tie.close (tie.spec sub-write part-write-start part-write-end write-requires sub-write-2 part-write-start-2 part-write-end-2 write-requires-2
+    sub-write-3 part-write-start-3 part-write-end-3 write-requires-3 slice-write-text same-length returns)

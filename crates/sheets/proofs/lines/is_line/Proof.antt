@@ -1,4 +1,4 @@
--- `sheets::lines::is_line` meets its contract: each test on the way is a part of the definition.
+-- A line that is too short or does not end where it should is none; and else its bytes decide, as in the definition.
 use native.Mathlib.Omega.{arith}
 use mathlib.Core.Path.{sym, _∙_}
 use denote.Ref.{now}
@@ -32,18 +32,11 @@ are-digits-requires : tie.Need-are-digits-requires
 are-digits-requires c κs = search needs
 
 returns-3 : tie.Need-returns-3
-returns-3 c = let a = c .before .before .before .before .before .before .args in c .are-digits .ensures ∙ line-ended (a .places) (a .at) (now (a .text)) (c .before .before .if2 .left)
+returns-3 c =
+    let a = c .before .before .before .before .before .before .args in
+    c .are-digits .ensures ∙ line-ended (a .places) (a .at) (now (a .text)) (c .before .before .if2 .left)
 
 pub is-line-spec : {M : Type 1} → statement M
 is-line-spec =
-    tie.close
-    (tie.spec
-    add-end
-    returns
-    shared-slice-read-if2
-    returns-2
-    sub-are-digits
-    part-are-digits-start
-    part-are-digits-end
-    are-digits-requires
+    tie.close (tie.spec add-end returns shared-slice-read-if2 returns-2 sub-are-digits part-are-digits-start part-are-digits-end are-digits-requires
     returns-3)

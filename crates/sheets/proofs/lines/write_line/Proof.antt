@@ -1,4 +1,4 @@
--- `sheets::lines::write_line` meets its contract: the digits fill all but the last place, which takes the byte that ends the line.
+-- The digits fill all but the last place, which takes the byte that ends the line.
 use Prim.Native.Nat.{_-_}
 use native.Mathlib.Omega.{arith}
 use mathlib.Core.Path.{sym}
@@ -34,13 +34,4 @@ returns c =
     line-filled (length (now (a .text)) - 1) (a .x) (now (a .text)) (c .before .before .write .last .0) (omega arith) (c .before .before .write .ensures)
 
 pub write-line-spec : {M : Type 1} → statement M
-write-line-spec =
-    tie.close
-    (tie.spec
-    sub-end
-    slice-relend-prefix-write
-    slice-aggregate-write
-    write-requires
-    slice-write-text
-    same-length
-    returns)
+write-line-spec = tie.close (tie.spec sub-end slice-relend-prefix-write slice-aggregate-write write-requires slice-write-text same-length returns)

@@ -1,4 +1,4 @@
--- `sheets::lines::write_row` meets its contract: at one word per set its word is its mask.
+-- The line of a set is that of its word: at one word per set the word is the mask.
 use Prim.Native.Nat.{ℕ, _-_}
 use mathlib.Core.Path.{ap, _∙_}
 use denote.Ref.{now}
