@@ -45,9 +45,7 @@ keep-keep p q (x ∷ xs) = go (p x) (keep-keep p q xs)
 pub keep-none : (p : ℕ → Bool) (xs : List ℕ) → ((v : ℕ) → Mem v xs → T (p v) → ⊥) → keep p xs ≡ []
 unfolding keep
 keep-none p [] e = refl
-keep-none p (x ∷ xs) e =
-    ap (λ (b : Bool). cond b (x ∷ keep p xs) (keep p xs)) (sym (is-false (p x) (e x (List·Memᴰ·head refl))))
-    ∙ keep-none p xs (λ v m. e v (List·Memᴰ·tail m))
+keep-none p (x ∷ xs) e = keep-out p x xs (e x (List·Memᴰ·head refl)) ∙ keep-none p xs (λ v m. e v (List·Memᴰ·tail m))
 
 pub keep-length : (p : ℕ → Bool) (xs : List ℕ) → length (keep p xs) ≤ length xs
 unfolding keep
@@ -62,8 +60,9 @@ keep-length p (x ∷ xs) = go (p x) (keep-length p xs)
 pub total-either : (f : ℕ → ℕ) (p q : ℕ → Bool) (xs : List ℕ) → ((v : ℕ) → Mem v xs → T (p v) → T (q v) → ⊥)
     → total f (keep (λ v. p v || q v) xs) ≡ total f (keep p xs) + total f (keep q xs)
 total-either f p q xs h =
-    total-keep f (λ v. p v || q v) xs ∙ total-ext (where-so (λ v. p v || q v) f) (λ v. where-so p f v + where-so q f v) xs (λ v m. go (p v) (q v) (f v) (h v m))
-    ∙ total-add (where-so p f) (where-so q f) xs ∙ ap₂ (λ (a b : ℕ). a + b) (sym (total-keep f p xs)) (sym (total-keep f q xs))
+    simp total-keep
+    (total-ext (where-so (λ v. p v || q v) f) (λ v. where-so p f v + where-so q f v) xs (λ v m. go (p v) (q v) (f v) (h v m))
+    ∙ total-add (where-so p f) (where-so q f) xs)
   where
     go : (a b : Bool) (n : ℕ) → (T a → T b → ⊥) → cond (a || b) n 0 ≡ cond a n 0 + cond b n 0
     go true true n d = absurd (d tt tt)

@@ -13,9 +13,9 @@ use lib.Bits.{bitAnd, bitOr, and-block, or-block, and-self, and-zero-l, and-le-l
 use lib.Count.{ones, ones-cat}
 use lib.ListN.{length, getD}
 use Rattle.sets.specs.Ranges.{total}
-use Rattle.sets.specs.Set.{bit, In, minus, full}
-use Rattle.sets.specs.BitLaws.{bit-high}
-use Rattle.sets.specs.WordLaws.{bit-mod}
+use Rattle.sets.specs.Set.{bit, minus, full}
+use Rattle.sets.specs.PointLaws.{bit-none}
+use Rattle.sets.specs.WordLaws.{bit-mod, LowestIn}
 use Rattle.sets.specs.Words.{wordBits, number, Fit}
 
 -- ---- an operation that goes word by word
@@ -100,10 +100,6 @@ Zeros (x ∷ xs) = (x ≡ 0) × Zeros xs
 
 -- ---- the lowest digit is that of the first word that is not 0
 
-pub record LowestIn (s v : ℕ) : Type 0 where
-  pub member : In v s
-  pub least : (u : ℕ) → u < v → bit s u ≡ 0
-
 pub lowest-here : (x h v : ℕ) → x < 2 ^ wordBits → v < wordBits → LowestIn x v → LowestIn (h * 2 ^ wordBits + x) v
 lowest-here x h v b l r = record { member = bit-low h x v b l ∙ r .member; least = λ u k. bit-low h x u b (omega arith) ∙ r .least u k }
 
@@ -115,7 +111,7 @@ lowest-skip h v r =
     }
   where
     go : (u : ℕ) → u < v + wordBits → Dec (u < wordBits) → bit (h * 2 ^ wordBits + 0) u ≡ 0
-    go u k (yes l) = bit-low h 0 u (pow-pos wordBits) l ∙ bit-high 0 u (pow-pos u)
+    go u k (yes l) = bit-low h 0 u (pow-pos wordBits) l ∙ bit-none u
     go u k (no nl) =
         let e : wordBits + (u - wordBits) ≡ u = omega arith in
         ap (bit (h * 2 ^ wordBits + 0)) (sym e) ∙ bit-above h 0 (u - wordBits) (pow-pos wordBits) ∙ r .least (u - wordBits) (omega arith)
