@@ -92,8 +92,8 @@ module _ (g : List ℕ) (ask : Request) where
   unfolding listing
   listing-placed first after m f s =
       let h = adds-all (2 ^ length g) (listed g ask) first after m s in
-      let exact : number (2 ^ length g) (listed g ask) ≡ m = omega (arith, h .counted) in
-      (sym exact, subst (λ (n : ℕ). n ≤ length first → Shuffled (take n after) (passing (2 ^ length g) (listed g ask)) × (drop n after ≡ drop n first)) exact (h .kept))
+      let exact : m ≡ number (2 ^ length g) (listed g ask) = omega (arith, h .counted) in
+      rw exact (refl, h .kept)
 
   -- so those slots, put in order, are the list
   pub listing-sorted : (first after part : List ℕ) (m : ℕ) → length (listing g ask) ≤ mostCount → Adds (2 ^ length g) (listed g ask) first 0 after m

@@ -11,7 +11,7 @@ use Rattle.sets.specs.Ranges.{from, range, keep}
 use Rattle.sets.specs.RangeLaws.{length-from, mem-range, range-mem, keep-mem, mem-keep, or-cases, or-left, or-right}
 use Rattle.sets.specs.SumLaws.{length-total}
 use Rattle.lists.specs.Order.{Shuffled}
-use Rattle.lists.specs.Placing.{passing, number, union, only, Apart, capped, Holds, Adds}
+use Rattle.lists.specs.Placing.{passing, number, union, only, Apart, capped, Held, Holds, Adds}
 use Rattle.sets.specs.KeepLaws.{keep-ext, keep-none, keep-length, keep-rising, total-either}
 use Rattle.lists.specs.OrderLaws.{rising-unique}
 
@@ -51,14 +51,13 @@ module _ (N : ℕ) where
   passing-only x l =
       rising-unique 0 0 (keep (only x) (from 0 N)) (x ∷ []) (keep-rising (only x) 0 N) (zero-le, tt)
       (λ y m. List·Memᴰ·head (eqb→eq y x (keep-mem (only x) (range N) y m .1)))
-      (λ y m. mem-keep (only x) (range N) y (mem-range N y (subst (λ (z : ℕ). z < N) (sym (List·Memᴰ·eq-of-singleton m)) l)) (subst (λ (z : ℕ). T (eqb y z)) (List·Memᴰ·eq-of-singleton m) (eqb-refl y)))
+      (λ y m. let e = List·Memᴰ·eq-of-singleton m in mem-keep (only x) (range N) y (mem-range N y (omega (arith, e, l))) (rw e (eqb-refl x)))
 
   pub number-only : (x : ℕ) → x < N → number N (only x) ≡ 1
   number-only x l = ap length (passing-only x l)
 
   pub number-union : (P Q : ℕ → Bool) → Apart N P Q → number N (union P Q) ≡ number N P + number N Q
-  number-union P Q d =
-      omega (arith, length-total (passing N (union P Q)), length-total (passing N P), length-total (passing N Q), total-either (λ x. 1) P Q (range N) (λ x m. d x (range-mem N x m)))
+  number-union P Q d = simp length-total (total-either (λ x. 1) P Q (range N) (λ x m. d x (range-mem N x m)))
 
   -- ---- what slots hold
 
@@ -67,15 +66,14 @@ module _ (N : ℕ) where
   holds-same first slots P Q count e h = let same = passing-same P Q e in record {
     counted = h .counted ∙ ap (λ (t : List ℕ). capped (length t)) same;
     long = h .long;
-    kept = λ l. subst (λ (t : List ℕ). length t ≤ length first → Shuffled (take (length t) slots) t × (drop (length t) slots ≡ drop (length t) first)) same (h .kept) l;
+    kept = subst (λ (t : List ℕ). Held first t slots) same (h .kept);
   }
 
   pub holds-none : (first : List ℕ) (P : ℕ → Bool) → ((x : ℕ) → x < N → T (P x) → ⊥) → Holds N first P first 0
-  holds-none first P f = record {
-    counted = sym (ap (λ (t : List ℕ). capped (length t)) (passing-none P f));
+  holds-none first P f = let none = sym (passing-none P f) in record {
+    counted = ap (λ (t : List ℕ). capped (length t)) none;
     long = refl;
-    kept = subst (λ (t : List ℕ). length t ≤ length first → Shuffled (take (length t) first) t × (drop (length t) first ≡ drop (length t) first)) (sym (passing-none P f))
-        (λ l. (λ z. refl, refl));
+    kept = subst (λ (t : List ℕ). Held first t first) none (λ l. (λ z. refl, refl));
   }
 
   -- ---- steps that add
