@@ -5,9 +5,8 @@ use Prim.Native.Nat.{ℕ, zero, suc, _+_, _≤_}
 use native.Mathlib.Nat.{le-refl, le-trans}
 use native.Mathlib.Omega.{arith}
 use mathlib.Core.Path.{_≡_, refl, sym, ap, ap₂, _∙_}
-use mathlib.Core.Logic.{_⊎_, inl, inr}
 use mathlib.Core.Bool.{Bool, true, false, _&&_, _||_, cond}
-use mathlib.Core.List.{List, [], _∷_, List·Memᴰ·head, List·Memᴰ·tail, List·Memᴰ·cases-cons, List·Memᴰ·not-nil}
+use mathlib.Core.List.{List, [], _∷_, List·Memᴰ·head, List·Memᴰ·tail}
 use lib.Dec.{T}
 use lib.ListN.{length}
 use Rattle.sets.specs.Ranges.{from, keep, total}
@@ -90,9 +89,5 @@ keep-rising p i (suc m) = go (p i) (keep-rising p (suc i) m)
     go false r = lower (suc i) i (keep p (from (suc i) m)) (omega arith) r
 
 pub rising-above : (b v : ℕ) (xs : List ℕ) → Rising b xs → Mem v xs → b ≤ v
-rising-above b v [] r m = absurd (List·Memᴰ·not-nil m)
-rising-above b v (x ∷ xs) r m = go (List·Memᴰ·cases-cons m) (rising-above (suc x) v xs (r .1))
-  where
-    go : (v ≡ x) ⊎ Mem v xs → (Mem v xs → suc x ≤ v) → b ≤ v
-    go (inl e) f = omega (arith, r .0)
-    go (inr k) f = omega (arith, f k, r .0)
+rising-above b v (x ∷ xs) r (List·Memᴰ·head e) = omega (arith, r .0)
+rising-above b v (x ∷ xs) r (List·Memᴰ·tail k) = omega (arith, r .0, rising-above (suc x) v xs (r .1) k)
