@@ -16,10 +16,10 @@ use Rattle.judging.specs.Plex.{maximal}
 use Rattle.judging.specs.PlexLaws.{maximal-holds, maximal-test}
 use Rattle.lists.specs.Order.{Shuffled, Sorts}
 use Rattle.lists.specs.OrderLaws.{rising-ordered, ordered-unique, rising-unique}
-use Rattle.lists.specs.Placing.{passing, number, mostCount, Adds}
+use Rattle.lists.specs.Placing.{number, mostCount, Adds}
 use Rattle.lists.specs.Listing.{listed, listing, Listed}
 use Rattle.sets.specs.KeepLaws.{keep-none, Rising, keep-rising}
-use Rattle.lists.specs.PlacingLaws.{number-lt, adds-all}
+use Rattle.lists.specs.PlacingLaws.{number-fits, adds-all}
 
 module _ (g : List ℕ) (ask : Request) where
   -- the statement behind the test
@@ -74,17 +74,13 @@ module _ (g : List ℕ) (ask : Request) where
   -- the empty set is not listed: so m fits a word of as many bits as there are vertices
   pub listing-fits : 1 ≤ ask .floor → length (listing g ask) < 2 ^ length g
   unfolding listing
-  listing-fits l = number-lt (2 ^ length g) (listed g ask) (pow-pos (length g)) (empty-unlisted l)
+  listing-fits l = number-fits (2 ^ length g) (listed g ask) (pow-pos (length g)) (empty-unlisted l)
 
   -- ---- the list and placing
 
   -- so the count of at most 64 vertices never stops short
   pub listing-counts : 1 ≤ ask .floor → length g ≤ 64 → length (listing g ask) ≤ mostCount
   listing-counts l n = omega (arith, lt-of-lt-of-le (listing-fits l) (pow-mono {i = length g} {j = 64} n))
-
-  pub listing-passing : listing g ask ≡ passing (2 ^ length g) (listed g ask)
-  unfolding listing
-  listing-passing = refl
 
   -- what the slots hold when all that is listed is added to none: m is the list's length, and while it fits, the list shuffled and then what was there
   pub listing-placed : (first after : List ℕ) (m : ℕ) → length (listing g ask) ≤ mostCount → Adds (2 ^ length g) (listed g ask) first 0 after m

@@ -26,10 +26,10 @@ or-assoc false b c = refl
 -- ---- how many pass
 
 -- not all pass where 0 does not
-pub number-lt : (N : ℕ) (P : ℕ → Bool) → 0 < N → (T (P 0) → ⊥) → number N P < N
+pub number-fits : (N : ℕ) (P : ℕ → Bool) → 0 < N → (T (P 0) → ⊥) → number N P < N
 unfolding range from keep
-number-lt zero P l f = l
-number-lt (suc n) P l f = go (P 0) f (keep-length P (from 1 n))
+number-fits zero P l f = l
+number-fits (suc n) P l f = go (P 0) f (keep-length P (from 1 n))
   where
     go : (b : Bool) → (T b → ⊥) → length (keep P (from 1 n)) ≤ length (from 1 n) → length (cond b (0 ∷ keep P (from 1 n)) (keep P (from 1 n))) < suc n
     go true h k = absurd (h tt)
@@ -38,9 +38,6 @@ number-lt (suc n) P l f = go (P 0) f (keep-length P (from 1 n))
 module _ (N : ℕ) where
   pub passing-same : (P Q : ℕ → Bool) → ((x : ℕ) → x < N → P x ≡ Q x) → passing N P ≡ passing N Q
   passing-same P Q e = keep-ext P Q (range N) (λ x m. e x (range-mem N x m))
-
-  pub number-same : (P Q : ℕ → Bool) → ((x : ℕ) → x < N → P x ≡ Q x) → number N P ≡ number N Q
-  number-same P Q e = ap length (passing-same P Q e)
 
   pub passing-none : (Q : ℕ → Bool) → ((x : ℕ) → x < N → T (Q x) → ⊥) → passing N Q ≡ []
   passing-none Q f = keep-none Q (range N) (λ x m. f x (range-mem N x m))
