@@ -4,7 +4,7 @@
 use Prim.Native.Nat.{ℕ, zero, suc, _+_, _≤_}
 use native.Mathlib.Nat.{le-refl, le-trans}
 use native.Mathlib.Omega.{arith}
-use mathlib.Core.Path.{_≡_, refl, sym, ap, ap₂, _∙_}
+use mathlib.Core.Path.{_≡_, refl, ap, ap₂, _∙_}
 use mathlib.Core.Bool.{Bool, true, false, _&&_, _||_, cond}
 use mathlib.Core.List.{List, [], _∷_, List·Memᴰ·head, List·Memᴰ·tail}
 use lib.Dec.{T}
@@ -24,11 +24,11 @@ keep-ext p q (x ∷ xs) e =
 -- an element that passes, and one that does not
 pub keep-in : (p : ℕ → Bool) (x : ℕ) (xs : List ℕ) → T (p x) → keep p (x ∷ xs) ≡ x ∷ keep p xs
 unfolding keep
-keep-in p x xs t = ap (λ (b : Bool). cond b (x ∷ keep p xs) (keep p xs)) (sym (is-true (p x) t))
+keep-in p x xs t = rw (← is-true (p x) t)
 
 pub keep-out : (p : ℕ → Bool) (x : ℕ) (xs : List ℕ) → (T (p x) → ⊥) → keep p (x ∷ xs) ≡ keep p xs
 unfolding keep
-keep-out p x xs f = ap (λ (b : Bool). cond b (x ∷ keep p xs) (keep p xs)) (sym (is-false (p x) f))
+keep-out p x xs f = rw (← is-false (p x) f)
 
 pub keep-keep : (p q : ℕ → Bool) (xs : List ℕ) → keep q (keep p xs) ≡ keep (λ u. p u && q u) xs
 unfolding keep
