@@ -2,7 +2,7 @@
 use Prim.Native.Nat.{ℕ, _^_, _≤_, _<_}
 use native.Mathlib.Nat.{lt-of-lt-of-le}
 use native.Mathlib.Omega.{arith}
-use mathlib.Core.Path.{_≡_, refl, ap₂, _∙_, sym, subst}
+use mathlib.Core.Path.{_≡_, refl, ap₂, _∙_}
 use mathlib.Core.List.{List, [], _++_}
 use lib.Dec.{T, leb, leb→le, le→leb}
 use lib.Count.{ones-le}
@@ -16,10 +16,10 @@ use Rattle.judging.specs.Plex.{maximal}
 use Rattle.judging.specs.PlexLaws.{maximal-holds, maximal-test}
 use Rattle.lists.specs.Order.{Shuffled, Sorts}
 use Rattle.lists.specs.OrderLaws.{rising-ordered, ordered-unique, rising-unique}
-use Rattle.lists.specs.Placing.{passing, number, mostCount, Adds}
+use Rattle.lists.specs.Placing.{number, mostCount, Adds}
 use Rattle.lists.specs.Listing.{listed, listing, Listed}
 use Rattle.sets.specs.KeepLaws.{keep-none, Rising, keep-rising}
-use Rattle.lists.specs.PlacingLaws.{number-lt, adds-all}
+use Rattle.lists.specs.PlacingLaws.{number-fits, adds-all}
 
 module _ (g : List ℕ) (ask : Request) where
   -- the statement behind the test
@@ -74,7 +74,7 @@ module _ (g : List ℕ) (ask : Request) where
   -- the empty set is not listed: so m fits a word of as many bits as there are vertices
   pub listing-fits : 1 ≤ ask .floor → length (listing g ask) < 2 ^ length g
   unfolding listing
-  listing-fits l = number-lt (2 ^ length g) (listed g ask) (pow-pos (length g)) (empty-unlisted l)
+  listing-fits l = number-fits (2 ^ length g) (listed g ask) (pow-pos (length g)) (empty-unlisted l)
 
   -- ---- the list and placing
 
@@ -82,18 +82,14 @@ module _ (g : List ℕ) (ask : Request) where
   pub listing-counts : 1 ≤ ask .floor → length g ≤ 64 → length (listing g ask) ≤ mostCount
   listing-counts l n = omega (arith, lt-of-lt-of-le (listing-fits l) (pow-mono {i = length g} {j = 64} n))
 
-  pub listing-passing : listing g ask ≡ passing (2 ^ length g) (listed g ask)
-  unfolding listing
-  listing-passing = refl
-
   -- what the slots hold when all that is listed is added to none: m is the list's length, and while it fits, the list shuffled and then what was there
   pub listing-placed : (first after : List ℕ) (m : ℕ) → length (listing g ask) ≤ mostCount → Adds (2 ^ length g) (listed g ask) first 0 after m
       → (m ≡ length (listing g ask)) × (m ≤ length first → Shuffled (take m after) (listing g ask) × (drop m after ≡ drop m first))
   unfolding listing
   listing-placed first after m f s =
       let h = adds-all (2 ^ length g) (listed g ask) first after m s in
-      let exact : number (2 ^ length g) (listed g ask) ≡ m = omega (arith, h .counted) in
-      (sym exact, subst (λ (n : ℕ). n ≤ length first → Shuffled (take n after) (passing (2 ^ length g) (listed g ask)) × (drop n after ≡ drop n first)) exact (h .kept))
+      let exact : m ≡ number (2 ^ length g) (listed g ask) = omega (arith, h .counted) in
+      rw exact (refl, h .kept)
 
   -- so those slots, put in order, are the list
   pub listing-sorted : (first after part : List ℕ) (m : ℕ) → length (listing g ask) ≤ mostCount → Adds (2 ^ length g) (listed g ask) first 0 after m

@@ -5,7 +5,8 @@
 --   union P Q        the masks that pass P and those that pass Q;  only x, the mask x alone
 --   Apart N P Q      no mask below N passes both
 --   capped n         n, or 2 ^ 64 - 1 where n is greater: the count stops there
---   Holds N first P slots count      count is how many masks pass P, capped; while they fit, slots hold them, in any order, and after them what first held there
+--   Held first xs slots              while they fit, slots hold the masks xs, in any order, and after them what first held there
+--   Holds N first P slots count      count is how many masks pass P, capped, and the slots hold them
 --   Adds N Q before count after r    the step from (before, count) to (after, r) adds the masks that pass Q
 use Prim.Native.Nat.{ℕ, _-_, _^_, _≤_, _<_, min}
 use mathlib.Core.Path.{_≡_}
@@ -37,10 +38,13 @@ mostCount = 2 ^ 64 - 1
 abbrev pub capped : ℕ → ℕ
 capped n = min n mostCount
 
+abbrev pub Held : List ℕ → List ℕ → List ℕ → Type 0
+Held first xs slots = length xs ≤ length first → Shuffled (take (length xs) slots) xs × (drop (length xs) slots ≡ drop (length xs) first)
+
 pub record Holds (N : ℕ) (first : List ℕ) (P : ℕ → Bool) (slots : List ℕ) (count : ℕ) : Type 0 where
   pub counted : count ≡ capped (number N P)
   pub long : length slots ≡ length first
-  pub kept : number N P ≤ length first → Shuffled (take (number N P) slots) (passing N P) × (drop (number N P) slots ≡ drop (number N P) first)
+  pub kept : Held first (passing N P) slots
 
 -- where the masks of a P apart from Q were counted and held, those of P and Q are
 pub record Adds (N : ℕ) (Q : ℕ → Bool) (before : List ℕ) (count : ℕ) (after : List ℕ) (r : ℕ) : Type 0 where

@@ -5,13 +5,12 @@ use mathlib.Core.Path.{_≡_, refl, sym, ap, _∙_, subst}
 use mathlib.Core.Logic.{_⊎_, inl, inr}
 use mathlib.Core.Bool.{Bool, true, false, _||_, cond}
 use mathlib.Core.List.{List, [], _∷_, List·Memᴰ·head, List·Memᴰ·eq-of-singleton}
-use lib.Dec.{T, eqb, eqb→eq, eqb-refl}
-use lib.ListN.{length, take, drop}
+use lib.Dec.{T, eqb→eq, eqb-refl}
+use lib.ListN.{length}
 use Rattle.sets.specs.Ranges.{from, range, keep}
 use Rattle.sets.specs.RangeLaws.{length-from, mem-range, range-mem, keep-mem, mem-keep, or-cases, or-left, or-right}
 use Rattle.sets.specs.SumLaws.{length-total}
-use Rattle.lists.specs.Order.{Shuffled}
-use Rattle.lists.specs.Placing.{passing, number, union, only, Apart, capped, Holds, Adds}
+use Rattle.lists.specs.Placing.{passing, number, union, only, Apart, capped, Held, Holds, Adds}
 use Rattle.sets.specs.KeepLaws.{keep-ext, keep-none, keep-length, keep-rising, total-either}
 use Rattle.lists.specs.OrderLaws.{rising-unique}
 
@@ -27,10 +26,10 @@ or-assoc false b c = refl
 -- ---- how many pass
 
 -- not all pass where 0 does not
-pub number-lt : (N : ℕ) (P : ℕ → Bool) → 0 < N → (T (P 0) → ⊥) → number N P < N
+pub number-fits : (N : ℕ) (P : ℕ → Bool) → 0 < N → (T (P 0) → ⊥) → number N P < N
 unfolding range from keep
-number-lt zero P l f = l
-number-lt (suc n) P l f = go (P 0) f (keep-length P (from 1 n))
+number-fits zero P l f = l
+number-fits (suc n) P l f = go (P 0) f (keep-length P (from 1 n))
   where
     go : (b : Bool) → (T b → ⊥) → length (keep P (from 1 n)) ≤ length (from 1 n) → length (cond b (0 ∷ keep P (from 1 n)) (keep P (from 1 n))) < suc n
     go true h k = absurd (h tt)
@@ -40,9 +39,6 @@ module _ (N : ℕ) where
   pub passing-same : (P Q : ℕ → Bool) → ((x : ℕ) → x < N → P x ≡ Q x) → passing N P ≡ passing N Q
   passing-same P Q e = keep-ext P Q (range N) (λ x m. e x (range-mem N x m))
 
-  pub number-same : (P Q : ℕ → Bool) → ((x : ℕ) → x < N → P x ≡ Q x) → number N P ≡ number N Q
-  number-same P Q e = ap length (passing-same P Q e)
-
   pub passing-none : (Q : ℕ → Bool) → ((x : ℕ) → x < N → T (Q x) → ⊥) → passing N Q ≡ []
   passing-none Q f = keep-none Q (range N) (λ x m. f x (range-mem N x m))
 
@@ -51,14 +47,13 @@ module _ (N : ℕ) where
   passing-only x l =
       rising-unique 0 0 (keep (only x) (from 0 N)) (x ∷ []) (keep-rising (only x) 0 N) (zero-le, tt)
       (λ y m. List·Memᴰ·head (eqb→eq y x (keep-mem (only x) (range N) y m .1)))
-      (λ y m. mem-keep (only x) (range N) y (mem-range N y (subst (λ (z : ℕ). z < N) (sym (List·Memᴰ·eq-of-singleton m)) l)) (subst (λ (z : ℕ). T (eqb y z)) (List·Memᴰ·eq-of-singleton m) (eqb-refl y)))
+      (λ y m. let e = List·Memᴰ·eq-of-singleton m in mem-keep (only x) (range N) y (mem-range N y (omega (arith, e, l))) (rw e (eqb-refl x)))
 
   pub number-only : (x : ℕ) → x < N → number N (only x) ≡ 1
   number-only x l = ap length (passing-only x l)
 
   pub number-union : (P Q : ℕ → Bool) → Apart N P Q → number N (union P Q) ≡ number N P + number N Q
-  number-union P Q d =
-      omega (arith, length-total (passing N (union P Q)), length-total (passing N P), length-total (passing N Q), total-either (λ x. 1) P Q (range N) (λ x m. d x (range-mem N x m)))
+  number-union P Q d = simp length-total (total-either (λ x. 1) P Q (range N) (λ x m. d x (range-mem N x m)))
 
   -- ---- what slots hold
 
@@ -67,15 +62,14 @@ module _ (N : ℕ) where
   holds-same first slots P Q count e h = let same = passing-same P Q e in record {
     counted = h .counted ∙ ap (λ (t : List ℕ). capped (length t)) same;
     long = h .long;
-    kept = λ l. subst (λ (t : List ℕ). length t ≤ length first → Shuffled (take (length t) slots) t × (drop (length t) slots ≡ drop (length t) first)) same (h .kept) l;
+    kept = subst (λ (t : List ℕ). Held first t slots) same (h .kept);
   }
 
   pub holds-none : (first : List ℕ) (P : ℕ → Bool) → ((x : ℕ) → x < N → T (P x) → ⊥) → Holds N first P first 0
-  holds-none first P f = record {
-    counted = sym (ap (λ (t : List ℕ). capped (length t)) (passing-none P f));
+  holds-none first P f = let none = sym (passing-none P f) in record {
+    counted = ap (λ (t : List ℕ). capped (length t)) none;
     long = refl;
-    kept = subst (λ (t : List ℕ). length t ≤ length first → Shuffled (take (length t) first) t × (drop (length t) first ≡ drop (length t) first)) (sym (passing-none P f))
-        (λ l. (λ z. refl, refl));
+    kept = subst (λ (t : List ℕ). Held first t first) none (λ l. (λ z. refl, refl));
   }
 
   -- ---- steps that add

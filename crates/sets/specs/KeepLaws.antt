@@ -4,10 +4,9 @@
 use Prim.Native.Nat.{ℕ, zero, suc, _+_, _≤_}
 use native.Mathlib.Nat.{le-refl, le-trans}
 use native.Mathlib.Omega.{arith}
-use mathlib.Core.Path.{_≡_, refl, sym, ap, ap₂, _∙_}
-use mathlib.Core.Logic.{_⊎_, inl, inr}
+use mathlib.Core.Path.{_≡_, refl, ap, ap₂, _∙_}
 use mathlib.Core.Bool.{Bool, true, false, _&&_, _||_, cond}
-use mathlib.Core.List.{List, [], _∷_, List·Memᴰ·head, List·Memᴰ·tail, List·Memᴰ·cases-cons, List·Memᴰ·not-nil}
+use mathlib.Core.List.{List, [], _∷_, List·Memᴰ·head, List·Memᴰ·tail}
 use lib.Dec.{T}
 use lib.ListN.{length}
 use Rattle.sets.specs.Ranges.{from, keep, total}
@@ -25,11 +24,11 @@ keep-ext p q (x ∷ xs) e =
 -- an element that passes, and one that does not
 pub keep-in : (p : ℕ → Bool) (x : ℕ) (xs : List ℕ) → T (p x) → keep p (x ∷ xs) ≡ x ∷ keep p xs
 unfolding keep
-keep-in p x xs t = ap (λ (b : Bool). cond b (x ∷ keep p xs) (keep p xs)) (sym (is-true (p x) t))
+keep-in p x xs t = rw (← is-true (p x) t)
 
 pub keep-out : (p : ℕ → Bool) (x : ℕ) (xs : List ℕ) → (T (p x) → ⊥) → keep p (x ∷ xs) ≡ keep p xs
 unfolding keep
-keep-out p x xs f = ap (λ (b : Bool). cond b (x ∷ keep p xs) (keep p xs)) (sym (is-false (p x) f))
+keep-out p x xs f = rw (← is-false (p x) f)
 
 pub keep-keep : (p q : ℕ → Bool) (xs : List ℕ) → keep q (keep p xs) ≡ keep (λ u. p u && q u) xs
 unfolding keep
@@ -45,9 +44,7 @@ keep-keep p q (x ∷ xs) = go (p x) (keep-keep p q xs)
 pub keep-none : (p : ℕ → Bool) (xs : List ℕ) → ((v : ℕ) → Mem v xs → T (p v) → ⊥) → keep p xs ≡ []
 unfolding keep
 keep-none p [] e = refl
-keep-none p (x ∷ xs) e =
-    ap (λ (b : Bool). cond b (x ∷ keep p xs) (keep p xs)) (sym (is-false (p x) (e x (List·Memᴰ·head refl))))
-    ∙ keep-none p xs (λ v m. e v (List·Memᴰ·tail m))
+keep-none p (x ∷ xs) e = keep-out p x xs (e x (List·Memᴰ·head refl)) ∙ keep-none p xs (λ v m. e v (List·Memᴰ·tail m))
 
 pub keep-length : (p : ℕ → Bool) (xs : List ℕ) → length (keep p xs) ≤ length xs
 unfolding keep
@@ -62,8 +59,9 @@ keep-length p (x ∷ xs) = go (p x) (keep-length p xs)
 pub total-either : (f : ℕ → ℕ) (p q : ℕ → Bool) (xs : List ℕ) → ((v : ℕ) → Mem v xs → T (p v) → T (q v) → ⊥)
     → total f (keep (λ v. p v || q v) xs) ≡ total f (keep p xs) + total f (keep q xs)
 total-either f p q xs h =
-    total-keep f (λ v. p v || q v) xs ∙ total-ext (where-so (λ v. p v || q v) f) (λ v. where-so p f v + where-so q f v) xs (λ v m. go (p v) (q v) (f v) (h v m))
-    ∙ total-add (where-so p f) (where-so q f) xs ∙ ap₂ (λ (a b : ℕ). a + b) (sym (total-keep f p xs)) (sym (total-keep f q xs))
+    simp total-keep
+    (total-ext (where-so (λ v. p v || q v) f) (λ v. where-so p f v + where-so q f v) xs (λ v m. go (p v) (q v) (f v) (h v m))
+    ∙ total-add (where-so p f) (where-so q f) xs)
   where
     go : (a b : Bool) (n : ℕ) → (T a → T b → ⊥) → cond (a || b) n 0 ≡ cond a n 0 + cond b n 0
     go true true n d = absurd (d tt tt)
@@ -91,9 +89,5 @@ keep-rising p i (suc m) = go (p i) (keep-rising p (suc i) m)
     go false r = lower (suc i) i (keep p (from (suc i) m)) (omega arith) r
 
 pub rising-above : (b v : ℕ) (xs : List ℕ) → Rising b xs → Mem v xs → b ≤ v
-rising-above b v [] r m = absurd (List·Memᴰ·not-nil m)
-rising-above b v (x ∷ xs) r m = go (List·Memᴰ·cases-cons m) (rising-above (suc x) v xs (r .1))
-  where
-    go : (v ≡ x) ⊎ Mem v xs → (Mem v xs → suc x ≤ v) → b ≤ v
-    go (inl e) f = omega (arith, r .0)
-    go (inr k) f = omega (arith, f k, r .0)
+rising-above b v (x ∷ xs) r (List·Memᴰ·head e) = omega (arith, r .0)
+rising-above b v (x ∷ xs) r (List·Memᴰ·tail k) = omega (arith, r .0, rising-above (suc x) v xs (r .1) k)

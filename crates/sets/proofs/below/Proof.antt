@@ -1,4 +1,4 @@
--- `sets::below` meets its contract: it does not come after the vertices below n.
+-- A set has no member of n or above where it does not come after the set of all vertices below n.
 use Rattle.sets.specs.Words.Operations.{below-mask}
 use borrow.Author.Needs.{needs}
 use Rattle.sets.proofs.below.Statement.{statement}

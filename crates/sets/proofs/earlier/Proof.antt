@@ -1,4 +1,4 @@
--- `sets::earlier` meets its contract.
+-- The answer of `precedes` says which of the two masks is the lesser.
 use native.Mathlib.Omega.{arith}
 use mathlib.Core.Path.{sym, _∙_}
 use borrow.Author.Tests.{ltb-true, ltb-false}
@@ -12,11 +12,13 @@ precedes-requires c κs = search needs
 
 returns : tie.Need-returns
 returns c =
-    omega (arith, ltb-true (mask (c .before .before .args .s)) (mask (c .before .before .args .t)) (sym (c .before .precedes .ensures) ∙ c .if1 .taken))
+    let start = c .before .before .args in
+    omega (arith, ltb-true (mask (start .s)) (mask (start .t)) (sym (c .before .precedes .ensures) ∙ c .if1 .taken))
 
 returns-2 : tie.Need-returns-2
 returns-2 c =
-    omega (arith, ltb-false (mask (c .before .before .args .s)) (mask (c .before .before .args .t)) (sym (c .before .precedes .ensures) ∙ c .if1 .left))
+    let start = c .before .before .args in
+    omega (arith, ltb-false (mask (start .s)) (mask (start .t)) (sym (c .before .precedes .ensures) ∙ c .if1 .left))
 
 pub earlier-spec : {M : Type 1} → statement M
 earlier-spec = tie.close (tie.spec precedes-requires returns returns-2)

@@ -1,4 +1,4 @@
--- `sets::full` meets its contract: a word of ones, shifted down until n are left.
+-- A word of ones, shifted down until n are left, has the vertices below n.
 use native.Mathlib.Omega.{arith}
 use Rattle.sets.specs.Words.Operations.{full-mask}
 use borrow.Author.Needs.{needs}

@@ -1,4 +1,4 @@
--- `sets::get` meets its contract.
+-- The set at position i starts at word i * WORDS, which lies within the words, and is read from there.
 use Prim.Native.Nat.{_*_, _<_}
 use native.Mathlib.Omega.{arith}
 use borrow.Author.Needs.{needs, scaled-fits}

@@ -1,4 +1,4 @@
--- `sets::has` meets its contract: the bit is shifted down and the others masked off.
+-- The bit of v is shifted down and the others are masked off, which leaves the digit at v.
 use native.Mathlib.Omega.{arith}
 use Rattle.sets.specs.Words.Operations.{has-mask}
 use borrow.Author.Needs.{needs}

@@ -1,4 +1,4 @@
--- `sets::indicator` meets its contract: the bit is shifted down and the others masked off.
+-- The digit at v, shifted down and freed of the others, is the number itself.
 use native.Mathlib.Omega.{arith}
 use Rattle.sets.specs.Words.Operations.{indicator-mask}
 use borrow.Author.Needs.{needs}

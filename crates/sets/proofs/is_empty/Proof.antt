@@ -1,4 +1,4 @@
--- `sets::is_empty` meets its contract.
+-- A mask is 0 exactly where each of its words is.
 use Rattle.sets.specs.Words.Operations.{is-empty-mask}
 use Rattle.sets.proofs.is_empty.Statement.{statement}
 use Rattle.sets.proofs.is_empty.Tie as tie

@@ -1,4 +1,4 @@
--- `sets::join` meets its contract.
+-- A union goes word by word.
 use native.Mathlib.Omega.{arith}
 use Rattle.sets.specs.Words.Operations.{join-mask}
 use Rattle.sets.proofs.join.Statement.{statement}

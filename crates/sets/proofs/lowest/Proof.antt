@@ -1,4 +1,4 @@
--- `sets::lowest` meets its contract: the count of trailing zeros is below the width.
+-- A word that is not 0 has its lowest member behind its trailing zeros, which are fewer than the width.
 use native.Mathlib.Omega.{arith}
 use lib.Count.{trailing-le}
 use Rattle.sets.specs.Words.Operations.{lowest-mask}

@@ -1,4 +1,4 @@
--- `sets::meet` meets its contract.
+-- An intersection goes word by word.
 use native.Mathlib.Omega.{arith}
 use Rattle.sets.specs.Words.Operations.{meet-mask}
 use Rattle.sets.proofs.meet.Statement.{statement}

@@ -1,4 +1,4 @@
--- `sets::minus` meets its contract.
+-- A difference goes word by word: what is taken out is masked off by its complement.
 use native.Mathlib.Omega.{arith}
 use Rattle.sets.specs.Words.Operations.{minus-mask}
 use Rattle.sets.proofs.minus.Statement.{statement}

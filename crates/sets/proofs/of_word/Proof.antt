@@ -1,4 +1,4 @@
--- `sets::of_word` meets its contract.
+-- The mask of a set of one word is that word.
 use Rattle.sets.specs.Words.Operations.{of-word-mask}
 use Rattle.sets.proofs.of_word.Statement.{statement}
 use Rattle.sets.proofs.of_word.Tie as tie

@@ -1,4 +1,4 @@
--- `sets::precedes` meets its contract.
+-- Masks come in the order of their words, and there is one.
 use Rattle.sets.specs.Words.Operations.{precedes-mask}
 use Rattle.sets.proofs.precedes.Statement.{statement}
 use Rattle.sets.proofs.precedes.Tie as tie

@@ -1,4 +1,4 @@
--- `sets::put` meets its contract.
+-- The set at position i starts at word i * WORDS, which lies within the words; to store it there changes no other position.
 use Prim.Native.Nat.{_*_, _<_}
 use native.Mathlib.Omega.{arith}
 use borrow.Author.Needs.{needs, scaled-fits}

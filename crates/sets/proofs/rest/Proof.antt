@@ -1,4 +1,4 @@
--- `sets::rest` meets its contract: a word less 1 differs from it up to the lowest digit.
+-- A word and the word less 1 have all members in common but the lowest.
 use native.Mathlib.Omega.{arith}
 use Rattle.sets.specs.SubsetLaws.{positive}
 use Rattle.sets.specs.Words.{mask}

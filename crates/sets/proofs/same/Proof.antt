@@ -1,4 +1,4 @@
--- `sets::same` meets its contract.
+-- Two sets are the same where their words are.
 use Rattle.sets.specs.Words.Operations.{same-mask}
 use Rattle.sets.proofs.same.Statement.{statement}
 use Rattle.sets.proofs.same.Tie as tie

@@ -1,4 +1,4 @@
--- `sets::single` meets its contract: the shift loses nothing.
+-- 1 is shifted up by v, which is below the width, so no digit is lost.
 use Rattle.sets.specs.Words.Operations.{single-mask}
 use borrow.Author.Needs.{needs}
 use Rattle.sets.proofs.single.Statement.{statement}

@@ -1,4 +1,4 @@
--- `sets::size` meets its contract: a count of ones, at most the width.
+-- The members are counted as the ones of the words, which are at most as many as the width.
 use native.Mathlib.Omega.{arith}
 use Rattle.sets.specs.Words.Operations.{size-mask}
 use Rattle.sets.proofs.size.Statement.{statement}

@@ -1,4 +1,4 @@
--- `sets::with` meets its contract.
+-- v is joined to s as the set of v alone.
 use mathlib.Core.Path.{ap, _∙_}
 use lib.Bits.{bitOr}
 use Rattle.sets.specs.Set.{with}

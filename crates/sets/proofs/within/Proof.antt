@@ -1,4 +1,4 @@
--- `sets::within` meets its contract: s is what it shares with t.
+-- s is within t where it is what the two share.
 use Prim.Native.Nat.{ℕ}
 use mathlib.Core.Path.{ap, _∙_}
 use lib.Dec.{eqb}

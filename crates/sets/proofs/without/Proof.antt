@@ -1,4 +1,4 @@
--- `sets::without` meets its contract.
+-- v is taken out of s as the set of v alone.
 use mathlib.Core.Path.{ap, _∙_}
 use Rattle.sets.specs.Set.{minus}
 use Rattle.sets.specs.Words.{mask}

@@ -1,4 +1,4 @@
--- `sets::without_if` meets its contract: the bit is shifted where it is 1, and else nothing is taken out.
+-- The shifted bit is the set of v alone where b holds, and else no vertex: that is taken out of s.
 use mathlib.Core.Path.{ap, _∙_}
 use Rattle.sets.specs.Set.{minus}
 use Rattle.sets.specs.Words.{mask}

@@ -1,4 +1,4 @@
--- `sets::word` meets its contract.
+-- A set has one word, so the one asked for is the lowest.
 use Rattle.sets.specs.Words.Operations.{word-of}
 use Rattle.sets.proofs.word.Statement.{statement}
 use Rattle.sets.proofs.word.Tie as tie

@@ -17,28 +17,22 @@ module _ (w : ℕ) where
   pub get-groups : (c i : ℕ) (ws : List ℕ) → i < c → getD (groups w c ws) i 0 ≡ number (take w (drop (i * w) ws))
   unfolding groups
   get-groups zero i ws l = absurd (omega arith)
-  get-groups (suc c) zero ws l =
-      let e : 0 ≡ 0 * w = omega arith in
-      ap (λ (k : ℕ). number (take w (drop k ws))) e
+  get-groups (suc c) zero ws l = let e : 0 * w ≡ 0 = omega arith in rw e
   get-groups (suc c) (suc i) ws l =
-      let e : w + i * w ≡ suc i * w = omega arith in
-      get-groups c i (drop w ws) (omega arith)
-      ∙ ap (λ (t : List ℕ). number (take w t)) (drop-drop (i * w) w ws ∙ ap (λ (k : ℕ). drop k ws) e)
+      let e : suc i * w ≡ w + i * w = omega arith in
+      rw (e, ← drop-drop (i * w) w ws) (get-groups c i (drop w ws) (omega arith))
 
   -- ---- parts
 
   pub append-groups : (m c : ℕ) (vs ws : List ℕ) → length vs ≡ m * w → groups w (m + c) (vs ++ ws) ≡ groups w m vs ++ groups w c ws
   unfolding groups
-  append-groups zero c [] ws e =
-      let z : 0 + c ≡ c = omega arith in
-      ap (λ (k : ℕ). groups w k ws) z
+  append-groups zero c [] ws e = let z : 0 + c ≡ c = omega arith in rw z
   append-groups zero c (x ∷ vs) ws e = absurd (omega (arith, e))
   append-groups (suc m) c vs ws e =
       let z : suc m + c ≡ suc (m + c) = omega arith in
       let l : w ≤ length vs = omega (arith, e) in
-      ap (λ (k : ℕ). groups w k (vs ++ ws)) z
-      ∙ ap₂ (λ (s t : List ℕ). number s ∷ groups w (m + c) t) (take-append-le w vs ws l) (drop-append-le w vs ws l)
-      ∙ ap (λ (t : List ℕ). number (take w vs) ∷ t) (append-groups m c (drop w vs) ws (omega (arith, e, length-drop w vs)))
+      let rest = append-groups m c (drop w vs) ws (omega (arith, e, length-drop w vs)) in
+      rw (z, take-append-le w vs ws l, drop-append-le w vs ws l, rest)
 
   -- the groups before position n, and those from there on
   pub split-groups : (n c : ℕ) (ws : List ℕ) → n * w ≤ length ws
@@ -55,15 +49,12 @@ module _ (w : ℕ) where
   drop-groups zero c ws =
       let z : 0 * w ≡ 0 = omega arith in
       let y : c - 0 ≡ c = omega arith in
-      ap₂ (λ (m k : ℕ). groups w m (drop k ws)) y z
-  drop-groups (suc n) zero ws =
-      let y : 0 - suc n ≡ 0 = omega arith in
-      ap (λ (m : ℕ). groups w m (drop (suc n * w) ws)) y
+      rw (y, z)
+  drop-groups (suc n) zero ws = let y : 0 - suc n ≡ 0 = omega arith in rw y
   drop-groups (suc n) (suc c) ws =
       let z : suc n * w ≡ w + n * w = omega arith in
       let y : suc c - suc n ≡ c - n = omega arith in
-      ap₂ (λ (m k : ℕ). groups w m (drop k ws)) y z
-      ∙ ap (groups w (c - n)) (sym (drop-drop (n * w) w ws)) ∙ drop-groups n c (drop w ws)
+      rw (y, z, ← drop-drop (n * w) w ws) (drop-groups n c (drop w ws))
 
 -- ---- a group read word by word, and stored word by word
 
@@ -74,9 +65,7 @@ reads (suc w) ws k = getD ws k 0 ∷ reads w ws (suc k)
 pub take-reads : (w : ℕ) (ws : List ℕ) (k : ℕ) → k + w ≤ length ws → take w (drop k ws) ≡ reads w ws k
 unfolding reads
 take-reads zero ws k l = refl
-take-reads (suc w) ws k l =
-    ap (take (suc w)) (drop-cons ws k 0 (omega arith))
-    ∙ ap (λ (t : List ℕ). getD ws k 0 ∷ t) (take-reads w ws (suc k) (omega arith))
+take-reads (suc w) ws k l = rw (drop-cons ws k 0 (omega arith), take-reads w ws (suc k) (omega arith))
 
 pub put-groups : (w i c : ℕ) (ws xs : List ℕ) → length xs ≡ w → (i + suc c) * w ≤ length ws
     → groups w (i + suc c) (sets ws (i * w) xs) ≡ set (groups w (i + suc c) ws) i (number xs)
@@ -107,7 +96,5 @@ blank-groups w zero = refl
 blank-groups w (suc n) =
     let z : suc n * w ≡ w + n * w = omega arith in
     let e : length (blank w) ≡ w = length-replicate w 0 in
-    ap (λ (m : ℕ). groups w (suc n) (blank m)) z
-    ∙ ap (groups w (suc n)) (sym (replicate-append-replicate w (n * w) 0))
-    ∙ ap₂ (λ (s t : List ℕ). number s ∷ groups w n t) (take-at (blank w) (blank (n * w)) w e) (drop-at (blank w) (blank (n * w)) w e)
-    ∙ ap₂ _∷_ (zeros-number (blank w) (blank-zeros w)) (blank-groups w n)
+    rw (z, ← replicate-append-replicate {A = ℕ} w (n * w) 0, take-at (blank w) (blank (n * w)) w e, drop-at (blank w) (blank (n * w)) w e)
+    (ap₂ _∷_ (zeros-number (blank w) (blank-zeros w)) (blank-groups w n))

@@ -4,7 +4,7 @@ use native.Mathlib.Omega.{arith}
 use native.Mathlib.Nat.{add-zero, zero-add}
 use native.Mathlib.Decide.{ℕ-discrete, decLt}
 use mathlib.Core.Path.{_≡_, refl, sym, ap, ap₂, _∙_, subst}
-use mathlib.Core.Bool.{Bool, cond}
+use mathlib.Core.Bool.{cond}
 use mathlib.Core.List.{List, [], _∷_, _++_}
 use borrow.Author.Tests.{lt-ltb, le-ltb, eq-eqb, ne-eqb}
 use lib.Dec.{eqb, ltb}
@@ -13,9 +13,9 @@ use lib.Bits.{bitAnd, bitOr, and-block, or-block, and-self, and-zero-l, and-le-l
 use lib.Count.{ones, ones-cat}
 use lib.ListN.{length, getD}
 use Rattle.sets.specs.Ranges.{total}
-use Rattle.sets.specs.Set.{bit, In, minus, full}
-use Rattle.sets.specs.BitLaws.{bit-high}
-use Rattle.sets.specs.WordLaws.{bit-mod}
+use Rattle.sets.specs.Set.{bit, minus, full}
+use Rattle.sets.specs.PointLaws.{bit-none}
+use Rattle.sets.specs.WordLaws.{bit-mod, LowestIn}
 use Rattle.sets.specs.Words.{wordBits, number, Fit}
 
 -- ---- an operation that goes word by word
@@ -76,7 +76,7 @@ bit-number (x ∷ xs) v d h l = go (decLt v wordBits) (λ k. bit-number xs (v - 
     go (yes k) r =
         let e : v / wordBits ≡ 0 = omega arith in
         let f : v % wordBits ≡ v = omega arith in
-        bit-low (number xs) x v (h .0) k ∙ sym (ap₂ (λ (i j : ℕ). bit (getD (x ∷ xs) i d) j) e f)
+        rw (e, f) (bit-low (number xs) x v (h .0) k)
     go (no nk) r =
         let e : wordBits + (v - wordBits) ≡ v = omega arith in
         let i : v / wordBits ≡ suc ((v - wordBits) / wordBits) = omega arith in
@@ -100,10 +100,6 @@ Zeros (x ∷ xs) = (x ≡ 0) × Zeros xs
 
 -- ---- the lowest digit is that of the first word that is not 0
 
-pub record LowestIn (s v : ℕ) : Type 0 where
-  pub member : In v s
-  pub least : (u : ℕ) → u < v → bit s u ≡ 0
-
 pub lowest-here : (x h v : ℕ) → x < 2 ^ wordBits → v < wordBits → LowestIn x v → LowestIn (h * 2 ^ wordBits + x) v
 lowest-here x h v b l r = record { member = bit-low h x v b l ∙ r .member; least = λ u k. bit-low h x u b (omega arith) ∙ r .least u k }
 
@@ -115,7 +111,7 @@ lowest-skip h v r =
     }
   where
     go : (u : ℕ) → u < v + wordBits → Dec (u < wordBits) → bit (h * 2 ^ wordBits + 0) u ≡ 0
-    go u k (yes l) = bit-low h 0 u (pow-pos wordBits) l ∙ bit-high 0 u (pow-pos u)
+    go u k (yes l) = bit-low h 0 u (pow-pos wordBits) l ∙ bit-none u
     go u k (no nl) =
         let e : wordBits + (u - wordBits) ≡ u = omega arith in
         ap (bit (h * 2 ^ wordBits + 0)) (sym e) ∙ bit-above h 0 (u - wordBits) (pow-pos wordBits) ∙ r .least (u - wordBits) (omega arith)
@@ -166,9 +162,7 @@ fulls (suc w) n at = full (min (n - at) wordBits) ∷ fulls w n (at + wordBits)
 
 pub full-number : (w n at : ℕ) → n ≤ at + w * wordBits → number (fulls w n at) ≡ full (n - at)
 unfolding number fulls
-full-number zero n at l =
-    let e : 0 ≡ n - at = omega arith in
-    ap full e
+full-number zero n at l = let e : n - at ≡ 0 = omega arith in rw e
 full-number (suc w) n at l =
     ap (λ (y : ℕ). y * 2 ^ wordBits + full (min (n - at) wordBits)) (full-number w n (at + wordBits) (omega arith))
     ∙ go (decLt (n - at) wordBits)
@@ -177,7 +171,7 @@ full-number (suc w) n at l =
     go (yes k) =
         let e : n - (at + wordBits) ≡ 0 = omega arith in
         let f : min (n - at) wordBits ≡ n - at = omega arith in
-        ap₂ (λ (y z : ℕ). full y * 2 ^ wordBits + full z) e f ∙ omega arith
+        rw (e, f) (omega arith)
     go (no nk) =
         let e : n - at ≡ n - (at + wordBits) + wordBits = omega arith in
         let f : min (n - at) wordBits ≡ wordBits = omega arith in
@@ -192,9 +186,7 @@ singles (suc w) v i = cond (eqb (v / wordBits) i) (2 ^ (v % wordBits)) 0 ∷ sin
 single-past : (w v i : ℕ) → v / wordBits < i → number (singles w v i) ≡ 0
 unfolding number singles
 single-past zero v i l = refl
-single-past (suc w) v i l =
-    ap₂ (λ (y : ℕ) (b : Bool). y * 2 ^ wordBits + cond b (2 ^ (v % wordBits)) 0) (single-past w v (suc i) (omega arith))
-    (ne-eqb (v / wordBits) i (λ e. absurd (omega (arith, e))))
+single-past (suc w) v i l = rw (single-past w v (suc i) (omega arith), ne-eqb (v / wordBits) i (omega arith))
 
 pub single-number : (w v i : ℕ) → i ≤ v / wordBits → v < (i + w) * wordBits → number (singles w v i) ≡ 2 ^ (v - i * wordBits)
 unfolding number singles
@@ -205,13 +197,10 @@ single-number (suc w) v i l h = go (ℕ-discrete (v / wordBits) i) (λ k. single
         → number (singles w v (suc i)) * 2 ^ wordBits + cond (eqb (v / wordBits) i) (2 ^ (v % wordBits)) 0 ≡ 2 ^ (v - i * wordBits)
     go (yes e) r =
         let f : v % wordBits ≡ v - i * wordBits = omega arith in
-        ap₂ (λ (y : ℕ) (b : Bool). y * 2 ^ wordBits + cond b (2 ^ (v % wordBits)) 0) (single-past w v (suc i) (omega arith)) (eq-eqb (v / wordBits) i e)
-        ∙ zero-add (2 ^ (v % wordBits)) ∙ ap (λ (y : ℕ). 2 ^ y) f
+        rw (single-past w v (suc i) (omega arith), eq-eqb (v / wordBits) i e, f) (zero-add (2 ^ (v - i * wordBits)))
     go (no ne) r =
         let f : v - suc i * wordBits + wordBits ≡ v - i * wordBits = omega arith in
-        ap₂ (λ (y : ℕ) (b : Bool). y * 2 ^ wordBits + cond b (2 ^ (v % wordBits)) 0) (r (omega arith)) (ne-eqb (v / wordBits) i ne)
-        ∙ add-zero (2 ^ (v - suc i * wordBits) * 2 ^ wordBits)
-        ∙ sym (pow-add 2 (v - suc i * wordBits) wordBits) ∙ ap (λ (y : ℕ). 2 ^ y) f
+        rw (r (omega arith), ne-eqb (v / wordBits) i ne, ← f, pow-add) (add-zero (2 ^ (v - suc i * wordBits) * 2 ^ wordBits))
 
 -- ---- none is 0 but where each word is
 

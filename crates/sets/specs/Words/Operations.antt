@@ -149,7 +149,7 @@ pub lowest-mask : (s : Set) → Fits s → 0 < mask s → Lowest (mask s) (trail
 unfolding mask
 lowest-mask s h p =
     let r = trailing-lowest wordBits (s .word) (nonzero-word s p) (h .0) in
-    let q = lowest-at [] (s .word) [] (trailingZeros wordBits (s .word)) tt (h .0) (r .0) (record { member = r .1; least = r .2 }) in
+    let q = lowest-at [] (s .word) [] (trailingZeros wordBits (s .word)) tt (h .0) (r .0) (r .1) in
     let z : 0 * wordBits + trailingZeros wordBits (s .word) ≡ trailingZeros wordBits (s .word) = omega arith in
     subst (Lowest (number (words s))) z (record { fits = omega (arith, r .0); member = q .member; least = q .least })
 
@@ -157,7 +157,7 @@ pub rest-mask : (s : Set) (v : ℕ) → Fits s → Lowest (mask s) v → mask (r
 unfolding mask
 rest-mask s v h l =
     clear-at [] (s .word) [] tt (nonzero-word s (positive (mask s) v (l .member))) (h .0) .0
-    ∙ clear-lowest (number (words s)) v (l .member) (l .least)
+    ∙ clear-lowest (number (words s)) v (record { member = l .member; least = l .least })
 
 -- ---- lent words
 
