@@ -5,7 +5,7 @@ use mathlib.Core.Path.{_≡_, refl, sym, ap, _∙_, subst}
 use mathlib.Core.List.{List}
 use lib.ListN.{length, take, drop, length-append}
 use Rattle.sets.specs.Words.{perSet, masks}
-use Rattle.sets.specs.Words.Operations.{count-masks}
+use Rattle.sets.specs.Words.Masks.{count-masks}
 use Rattle.judging.specs.Request.{Request}
 use Rattle.judging.specs.Refusal.{Reply, refused, answered, mostVertices}
 use Rattle.judging.specs.Calls.{refusal, numberOf, valueOf}

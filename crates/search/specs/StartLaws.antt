@@ -9,7 +9,7 @@ use lib.ListN.{length}
 use Rattle.sets.specs.Set.{bit, In, size, with, full}
 use Rattle.sets.specs.Graph.{row}
 use Rattle.sets.specs.Words.{perSet, width, masks}
-use Rattle.sets.specs.Words.Operations.{count-masks}
+use Rattle.sets.specs.Words.Masks.{count-masks}
 use Rattle.sets.specs.BitLaws.{bit-or}
 use Rattle.sets.specs.PointLaws.{bit-none, bit-with, in-single}
 use Rattle.sets.specs.RangeLaws.{same-test}

@@ -15,6 +15,7 @@ use Rattle.sets.specs.Set.{bit, In}
 use Rattle.sets.specs.declared.Set.{Set}
 pub mod Numbers
 pub mod Groups
+pub mod Masks
 pub mod Operations
 
 abbrev pub wordBits : ℕ

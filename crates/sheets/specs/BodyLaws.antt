@@ -10,7 +10,7 @@ use lib.ListN.{length, take, drop, length-append, length-drop, length-replicate}
 use lib.Seq.{take-at, length-take-le}
 use Rattle.sets.specs.Words.{perSet, width, masks}
 use Rattle.sets.specs.Words.Groups.{blank}
-use Rattle.sets.specs.Words.Operations.{count-masks, take-masks, blank-masks}
+use Rattle.sets.specs.Words.Masks.{count-masks, take-masks, blank-masks}
 use Rattle.judging.specs.Refusal.{refused, firstOf, graphCauses}
 use Rattle.judging.specs.Calls.{passed}
 use Rattle.judging.specs.Setting.{Sized}

@@ -9,7 +9,7 @@ use lib.ListN.{length, take, drop}
 use lib.Seq.{length-take-le}
 use Rattle.sets.specs.RangeLaws.{true-holds}
 use Rattle.sets.specs.Words.{perSet, width, masks}
-use Rattle.sets.specs.Words.Operations.{offset-fits, drop-masks, append-masks}
+use Rattle.sets.specs.Words.Masks.{offset-fits, drop-masks, append-masks}
 use Rattle.judging.specs.Request.{Request, asked}
 use Rattle.judging.specs.Refusal.{Reply, answered, firstOf, mostVertices, vertexCause, slackCause, floorCause}
 use Rattle.judging.specs.Calls.{passed, checkedReply, numberOf, valueOf, refusal}

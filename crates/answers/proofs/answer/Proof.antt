@@ -8,7 +8,7 @@ use lib.ListN.{length}
 use lib.Seq.{length-take-le}
 use Rattle.sets.specs.Words.{perSet, width, masks}
 use Rattle.sets.specs.Words.Groups.{blank}
-use Rattle.sets.specs.Words.Operations.{offset-fits, blank-masks}
+use Rattle.sets.specs.Words.Masks.{offset-fits, blank-masks}
 use Rattle.judging.specs.Request.{Request, asked}
 use Rattle.judging.specs.Refusal.{mostVertices}
 use Rattle.sheets.specs.Sheet.{reading, rowsAfter}

@@ -8,7 +8,7 @@ use denote.Ref.{now}
 use lib.ListN.{length}
 use lib.Seq.{length-take-le}
 use Rattle.sets.specs.Words.{masks}
-use Rattle.sets.specs.Words.Operations.{offset-fits}
+use Rattle.sets.specs.Words.Masks.{offset-fits}
 use Rattle.judging.specs.Request.{asked}
 use Rattle.search.specs.Calls.{listFoundReply}
 use Rattle.answers.specs.AnswerLaws.{GaveList, listed-fits, listed-few, listed-out, listed-refused}

@@ -1,5 +1,5 @@
 -- A set has no member of n or above where it does not come after the set of all vertices below n.
-use Rattle.sets.specs.Words.Operations.{below-mask}
+use Rattle.sets.specs.Words.Masks.{below-mask}
 use borrow.Author.Needs.{needs}
 use Rattle.sets.proofs.below.Statement.{statement}
 use Rattle.sets.proofs.below.Tie as tie

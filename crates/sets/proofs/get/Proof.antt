@@ -5,7 +5,8 @@ use borrow.Author.Needs.{needs, scaled-fits}
 use denote.Ref.{now}
 use lib.ListN.{length}
 use Rattle.sets.specs.Words.{perSet}
-use Rattle.sets.specs.Words.Operations.{count-masks, get-mask}
+use Rattle.sets.specs.Words.Operations.{get-mask}
+use Rattle.sets.specs.Words.Masks.{count-masks}
 use Rattle.sets.proofs.get.Statement.{statement}
 use Rattle.sets.proofs.get.Tie as tie
 

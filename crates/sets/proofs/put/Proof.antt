@@ -5,7 +5,8 @@ use borrow.Author.Needs.{needs, scaled-fits}
 use denote.Ref.{now}
 use lib.ListN.{length}
 use Rattle.sets.specs.Words.{perSet}
-use Rattle.sets.specs.Words.Operations.{count-masks, put-masks}
+use Rattle.sets.specs.Words.Operations.{put-masks}
+use Rattle.sets.specs.Words.Masks.{count-masks}
 use Rattle.sets.proofs.put.Statement.{statement}
 use Rattle.sets.proofs.put.Tie as tie
 

@@ -2,7 +2,8 @@
 use mathlib.Core.Path.{ap, _∙_}
 use Rattle.sets.specs.Set.{minus}
 use Rattle.sets.specs.Words.{mask}
-use Rattle.sets.specs.Words.Operations.{single-if-mask, without-if-mask}
+use Rattle.sets.specs.Words.Operations.{single-if-mask}
+use Rattle.sets.specs.Words.Masks.{without-if-mask}
 use borrow.Author.Needs.{needs}
 use Rattle.sets.proofs.without_if.Statement.{statement}
 use Rattle.sets.proofs.without_if.Tie as tie

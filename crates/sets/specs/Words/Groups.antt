@@ -1,11 +1,11 @@
 -- Laws of lent words that hold a number in each group of w words: reading, storing, parts, blank words. They hold for any w.
-use Prim.Native.Nat.{ℕ, zero, suc, _+_, _-_, _*_, _≤_, _<_}
+use Prim.Native.Nat.{ℕ, zero, suc, _+_, _-_, _*_, _^_, _≤_, _<_}
 use native.Mathlib.Omega.{arith}
 use mathlib.Core.Path.{_≡_, refl, sym, ap, ap₂, _∙_}
 use mathlib.Core.List.{List, [], _∷_, _++_, append-assoc}
-use lib.ListN.{length, getD, take, drop, set, length-drop, length-replicate, replicate, replicate-append-replicate, take-append-drop}
+use lib.ListN.{length, getD, take, drop, set, length-drop, length-append, length-replicate, replicate, replicate-append-replicate, take-append-drop}
 use lib.Seq.{sets, sets-eq, drop-drop, drop-cons, take-append-le, drop-append-le, take-at, drop-at, set-at, length-take-le}
-use Rattle.sets.specs.Words.{number, groups}
+use Rattle.sets.specs.Words.{wordBits, number, groups}
 use Rattle.sets.specs.Words.Numbers.{Zeros, zeros-number}
 
 module _ (w : ℕ) where
@@ -98,3 +98,25 @@ blank-groups w (suc n) =
     let e : length (blank w) ≡ w = length-replicate w 0 in
     rw (z, ← replicate-append-replicate {A = ℕ} w (n * w) 0, take-at (blank w) (blank (n * w)) w e, drop-at (blank w) (blank (n * w)) w e)
     (ap₂ _∷_ (zeros-number (blank w) (blank-zeros w)) (blank-groups w n))
+
+-- ---- numbers of one word each, kept in groups of more words: none is lost or changed
+
+-- each word with w blank words behind it
+unfoldable pub padded : ℕ → List ℕ → List ℕ
+padded w [] = []
+padded w (x ∷ xs) = x ∷ (blank w ++ padded w xs)
+
+pub padded-length : (w : ℕ) (xs : List ℕ) → length (padded w xs) ≡ length xs * suc w
+unfolding padded
+padded-length w [] = omega arith
+padded-length w (x ∷ xs) =
+    omega (arith, length-append (blank w) (padded w xs), length-replicate {A = ℕ} w 0, padded-length w xs)
+
+pub padded-groups : (w : ℕ) (xs : List ℕ) → groups (suc w) (length xs) (padded w xs) ≡ xs
+unfolding groups number padded
+padded-groups w [] = refl
+padded-groups w (x ∷ xs) =
+    let e : length (blank w) ≡ w = length-replicate w 0 in
+    ap₂ (λ (s t : List ℕ). number (x ∷ s) ∷ groups (suc w) (length xs) t) (take-at (blank w) (padded w xs) w e) (drop-at (blank w) (padded w xs) w e)
+    ∙ ap₂ (λ (n : ℕ) (t : List ℕ). (n * 2 ^ wordBits + x) ∷ t) (zeros-number (blank w) (blank-zeros w)) (padded-groups w xs)
+    ∙ ap (λ (n : ℕ). n ∷ xs) (omega arith)

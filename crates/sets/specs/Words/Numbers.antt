@@ -4,6 +4,7 @@ use native.Mathlib.Omega.{arith}
 use native.Mathlib.Nat.{add-zero, zero-add}
 use native.Mathlib.Decide.{ℕ-discrete, decLt}
 use mathlib.Core.Path.{_≡_, refl, sym, ap, ap₂, _∙_, subst}
+use mathlib.Core.Logic.{_≢_}
 use mathlib.Core.Bool.{cond}
 use mathlib.Core.List.{List, [], _∷_, _++_}
 use borrow.Author.Tests.{lt-ltb, le-ltb, eq-eqb, ne-eqb}
@@ -85,14 +86,42 @@ bit-number (x ∷ xs) v d h l = go (decLt v wordBits) (λ k. bit-number xs (v - 
         ∙ r (omega arith)
         ∙ sym (ap₂ (λ (m n : ℕ). bit (getD (x ∷ xs) m d) n) i j)
 
--- ---- the order: numbers that are the same above their lowest word
+-- ---- the order: the highest word in which they differ decides
 
-pub order-low : (h r s : ℕ) → ltb (h * 2 ^ wordBits + r) (h * 2 ^ wordBits + s) ≡ ltb r s
+-- numbers that are the same above their lowest word
+order-low : (h r s : ℕ) → ltb (h * 2 ^ wordBits + r) (h * 2 ^ wordBits + s) ≡ ltb r s
 order-low h r s = go (decLt r s)
   where
     go : Dec (r < s) → ltb (h * 2 ^ wordBits + r) (h * 2 ^ wordBits + s) ≡ ltb r s
     go (yes l) = lt-ltb (h * 2 ^ wordBits + r) (h * 2 ^ wordBits + s) (omega arith) ∙ sym (lt-ltb r s l)
     go (no nl) = le-ltb (h * 2 ^ wordBits + r) (h * 2 ^ wordBits + s) (omega arith) ∙ sym (le-ltb r s (omega arith))
+
+-- numbers that differ above their lowest word
+order-high : (h k r s : ℕ) → r < 2 ^ wordBits → s < 2 ^ wordBits → h ≢ k → ltb (h * 2 ^ wordBits + r) (k * 2 ^ wordBits + s) ≡ ltb h k
+order-high h k r s a b n = go (decLt h k)
+  where
+    go : Dec (h < k) → ltb (h * 2 ^ wordBits + r) (k * 2 ^ wordBits + s) ≡ ltb h k
+    go (yes l) = lt-ltb (h * 2 ^ wordBits + r) (k * 2 ^ wordBits + s) (omega arith) ∙ sym (lt-ltb h k l)
+    go (no nl) = le-ltb (h * 2 ^ wordBits + r) (k * 2 ^ wordBits + s) (omega (arith, n)) ∙ sym (le-ltb h k (omega arith))
+
+differ-at : (xs ys : List ℕ) (x y : ℕ) (zs : List ℕ) → Fit xs → Fit ys → length xs ≡ length ys → x ≢ y → number (xs ++ x ∷ zs) ≢ number (ys ++ y ∷ zs)
+unfolding number
+differ-at [] [] x y zs h k e n f = n (omega (arith, f))
+differ-at [] (b ∷ ys) x y zs h k e n f = absurd (omega arith)
+differ-at (a ∷ xs) [] x y zs h k e n f = absurd (omega arith)
+differ-at (a ∷ xs) (b ∷ ys) x y zs h k e n f = differ-at xs ys x y zs (h .1) (k .1) (omega arith) n (omega (arith, f, h .0, k .0))
+
+-- words that are the same above x and y; these differ, or are the lowest
+pub order-at : (xs ys : List ℕ) (x y : ℕ) (zs : List ℕ) → Fit xs → Fit ys → length xs ≡ length ys → (0 < length xs → x ≢ y)
+    → ltb (number (xs ++ x ∷ zs)) (number (ys ++ y ∷ zs)) ≡ ltb x y
+unfolding number
+order-at [] [] x y zs h k e n = order-low (number zs) x y
+order-at [] (b ∷ ys) x y zs h k e n = absurd (omega arith)
+order-at (a ∷ xs) [] x y zs h k e n = absurd (omega arith)
+order-at (a ∷ xs) (b ∷ ys) x y zs h k e n =
+    let d = n (omega arith) in
+    order-high (number (xs ++ x ∷ zs)) (number (ys ++ y ∷ zs)) a b (h .0) (k .0) (differ-at xs ys x y zs (h .1) (k .1) (omega arith) d)
+    ∙ order-at xs ys x y zs (h .1) (k .1) (omega arith) (λ l. d)
 
 abbrev pub Zeros : List ℕ → Type 0
 Zeros [] = Unit {0}

@@ -2,29 +2,26 @@
 use Prim.Native.Nat.{ℕ, zero, suc, _+_, _-_, _*_, _/_, _%_, _^_, _≤_, _<_, min}
 use native.Mathlib.Omega.{arith}
 use native.Mathlib.Nat.{zero-mul}
-use native.Mathlib.Decide.{decLt}
 use mathlib.Core.Path.{_≡_, refl, sym, ap, ap₂, _∙_, subst}
-use mathlib.Core.Bool.{Bool, true, false, not, cond}
-use mathlib.Core.List.{List, [], _∷_, _++_}
-use borrow.Author.Tests.{lt-ltb, le-ltb, eq-eqb}
+use mathlib.Core.Bool.{Bool, true, false, cond}
+use mathlib.Core.List.{List, [], _∷_}
+use borrow.Author.Tests.{eq-eqb}
 use lib.Dec.{eqb, ltb}
-use lib.Pow.{pow-pos}
 use lib.Bits.{bitAnd, bitOr, and-mask}
 use lib.Count.{ones, ones-le, trailingZeros}
-use lib.ListN.{length, getD, take, drop, set, length-take, length-drop, length-append, length-replicate}
+use lib.ListN.{length, getD, set}
 use lib.Seq.{length-sets}
 use mir.Val.{boolByte}
 use Rattle.sets.specs.Ranges.{total}
 use Rattle.sets.specs.Set.{bit, has, size, minus, without, full}
 use Rattle.sets.specs.Graph.{row}
-use Rattle.sets.specs.SubsetLaws.{positive, minus-none}
+use Rattle.sets.specs.SubsetLaws.{positive}
 use Rattle.sets.specs.WordLaws.{shifted-has, shift-one, shift-ones, and-not, trailing-lowest, clear-lowest}
 use Rattle.sets.specs.declared.Set.{Set}
 use Rattle.sets.specs.Words.{wordBits, perSet, width, number, Fit, words, wordOf, mask, groups, masks, Lowest}
-use Rattle.sets.specs.Words.Numbers.{zip, lifted, and-blocks, or-blocks, minus-blocks, ones-number, bit-number, order-low, lowest-at, clear-at}
+use Rattle.sets.specs.Words.Numbers.{zip, lifted, and-blocks, or-blocks, minus-blocks, ones-number, bit-number, order-at, lowest-at, clear-at}
 use Rattle.sets.specs.Words.Numbers.{fulls, full-number, singles, single-number, union, empty-number}
-use Rattle.sets.specs.Words.Groups.{length-groups, get-groups, append-groups, take-groups, drop-groups, put-groups, reads, take-reads}
-use Rattle.sets.specs.Words.Groups.{blank, blank-groups}
+use Rattle.sets.specs.Words.Groups.{length-groups, get-groups, put-groups, reads, take-reads}
 
 -- the words of a set have wordBits digits
 abbrev pub Fits : Set → Type 0
@@ -91,10 +88,6 @@ pub single-if-mask : (v : ℕ) (b : Bool) → v < width → mask (record { word 
 single-if-mask v true l = single-mask v l
 single-if-mask v false l = ap (λ (x : ℕ). mask (record { word = x % 2 ^ wordBits })) (zero-mul (2 ^ v)) ∙ empty-mask
 
-pub without-if-mask : (s v : ℕ) (b : Bool) → minus s (cond b (2 ^ v) 0) ≡ cond b (without s v) s
-without-if-mask s v true = refl
-without-if-mask s v false = minus-none s
-
 -- ---- what a set is asked
 
 -- a digit of the mask is one of its word
@@ -127,16 +120,8 @@ pub same-mask : (s t : Set) → eqb (s .word) (t .word) ≡ eqb (mask s) (mask t
 same-mask s t = ap₂ eqb (sym (of-word-mask (s .word))) (sym (of-word-mask (t .word)))
 
 pub precedes-mask : (s t : Set) → ltb (s .word) (t .word) ≡ ltb (mask s) (mask t)
-unfolding mask number
-precedes-mask s t = sym (order-low 0 (s .word) (t .word))
-
--- no mask above that of the vertices below n is below 2 ^ n
-pub below-mask : (s f : Set) (n : ℕ) (r : Bool) → mask f ≡ full n → r ≡ ltb (mask f) (mask s) → not r ≡ ltb (mask s) (2 ^ n)
-below-mask s f n r e q = ap not (q ∙ ap (λ (x : ℕ). ltb x (mask s)) e) ∙ go (decLt (full n) (mask s))
-  where
-    go : Dec (full n < mask s) → not (ltb (full n) (mask s)) ≡ ltb (mask s) (2 ^ n)
-    go (yes l) = ap not (lt-ltb (full n) (mask s) l) ∙ sym (le-ltb (mask s) (2 ^ n) (omega arith))
-    go (no nl) = ap not (le-ltb (full n) (mask s) (omega arith)) ∙ sym (lt-ltb (mask s) (2 ^ n) (omega (arith, pow-pos n)))
+unfolding mask
+precedes-mask s t = sym (order-at [] [] (s .word) (t .word) [] tt tt refl (λ l. absurd (omega (arith, l))))
 
 -- ---- the lowest member
 
@@ -161,10 +146,6 @@ rest-mask s v h l =
 
 -- ---- lent words
 
-pub count-masks : (ws : List ℕ) → length ws / perSet ≡ length (masks ws)
-unfolding masks
-count-masks ws = sym (length-groups perSet (length ws / perSet) ws)
-
 pub get-mask : (ws : List ℕ) (i : ℕ) → i < length (masks ws) → mask (record { word = getD ws (i * perSet) 0 }) ≡ row (masks ws) i
 unfolding mask masks row reads
 get-mask ws i l =
@@ -179,39 +160,3 @@ put-masks ws i s l =
     ap (λ (n : ℕ). groups perSet (n / perSet) (set ws (i * perSet) (s .word))) (length-sets ws (i * perSet) (words s))
     ∙ subst (λ (n : ℕ). groups perSet n (set ws (i * perSet) (s .word)) ≡ set (groups perSet n ws) i (number (words s))) (sym c)
     (put-groups perSet i (length ws / perSet - suc i) ws (words s) refl (omega arith))
-
--- ---- parts of lent words
-
--- the word at which position n starts lies within the words
-pub offset-fits : (n end : ℕ) (ws : List ℕ) → end ≡ n * perSet → n ≤ length (masks ws) → end ≤ length ws
-offset-fits n end ws e l = omega (arith, e, l, count-masks ws)
-
-pub take-masks : (n : ℕ) (ws : List ℕ) → n ≤ length (masks ws) → masks (take (n * perSet) ws) ≡ take n (masks ws)
-unfolding masks
-take-masks n ws l =
-    let k : n ≤ length ws / perSet = omega (arith, length-groups perSet (length ws / perSet) ws) in
-    let c : n + (length ws / perSet - n) ≡ length ws / perSet = omega arith in
-    let e : length (take (n * perSet) ws) / perSet ≡ n = omega (arith, length-take (n * perSet) ws) in
-    ap (λ (m : ℕ). groups perSet m (take (n * perSet) ws)) e
-    ∙ take-groups perSet n (length ws / perSet - n) ws (omega arith) ∙ ap (λ (m : ℕ). take n (groups perSet m ws)) c
-
-pub drop-masks : (n : ℕ) (ws : List ℕ) → masks (drop (n * perSet) ws) ≡ drop n (masks ws)
-unfolding masks
-drop-masks n ws =
-    let e : length (drop (n * perSet) ws) / perSet ≡ length ws / perSet - n = omega (arith, length-drop (n * perSet) ws) in
-    ap (λ (m : ℕ). groups perSet m (drop (n * perSet) ws)) e ∙ drop-groups perSet n (length ws / perSet) ws
-
--- m sets in front of words
-pub append-masks : (m : ℕ) (vs ws : List ℕ) → length vs ≡ m * perSet → masks (vs ++ ws) ≡ masks vs ++ masks ws
-unfolding masks
-append-masks m vs ws e =
-    let a : length (vs ++ ws) / perSet ≡ m + length ws / perSet = omega (arith, e, length-append vs ws) in
-    let b : m ≡ length vs / perSet = omega (arith, e) in
-    ap (λ (k : ℕ). groups perSet k (vs ++ ws)) a ∙ append-groups perSet m (length ws / perSet) vs ws e
-    ∙ ap (λ (k : ℕ). groups perSet k vs ++ groups perSet (length ws / perSet) ws) b
-
-pub blank-masks : (n : ℕ) → masks (blank (n * perSet)) ≡ blank n
-unfolding masks
-blank-masks n =
-    let e : length (blank (n * perSet)) / perSet ≡ n = omega (arith, length-replicate {A = ℕ} (n * perSet) 0) in
-    ap (λ (m : ℕ). groups perSet m (blank (n * perSet))) e ∙ blank-groups perSet n

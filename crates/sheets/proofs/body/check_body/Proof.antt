@@ -9,7 +9,7 @@ use lib.ListN.{length, drop}
 use lib.Seq.{length-take-le}
 use Rattle.sets.specs.Words.{perSet, width, masks}
 use Rattle.sets.specs.Words.Groups.{blank}
-use Rattle.sets.specs.Words.Operations.{offset-fits}
+use Rattle.sets.specs.Words.Masks.{offset-fits}
 use Rattle.sheets.specs.Lines.{numbers}
 use Rattle.sheets.specs.Sheet.{rowDigits}
 use Rattle.sheets.specs.BodyLaws.{line-refused, all-right, after-refused, lines-accepted, table-fits, taken-rows, taken-lines}

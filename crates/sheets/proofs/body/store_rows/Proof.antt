@@ -5,7 +5,7 @@ use mathlib.Core.Path.{_≡_, refl, _∙_}
 use denote.Ref.{now}
 use lib.ListN.{length}
 use Rattle.sets.specs.Words.{masks}
-use Rattle.sets.specs.Words.Operations.{count-masks}
+use Rattle.sets.specs.Words.Masks.{count-masks}
 use Rattle.sheets.specs.Sheet.{rowDigits}
 use Rattle.sheets.specs.LineLaws.{Storing, storing-none, storing-more, storing-all}
 use Rattle.sheets.specs.BodyLaws.{row-fits, row-readable}

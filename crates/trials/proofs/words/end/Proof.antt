@@ -2,7 +2,7 @@
 use denote.Ref.{now}
 use native.Mathlib.Omega.{arith}
 use borrow.Author.Needs.{needs}
-use Rattle.sets.specs.Words.Operations.{offset-fits}
+use Rattle.sets.specs.Words.Masks.{offset-fits}
 use Rattle.trials.proofs.words.end.Statement.{statement}
 use Rattle.trials.proofs.words.end.Tie as tie
 

@@ -1,0 +1,80 @@
+-- Laws of masks and of lent words that hold sets, at any number of words per set: how many sets they hold, their parts, blank words. No word of a set is looked at.
+use Prim.Native.Nat.{ℕ, _+_, _-_, _*_, _/_, _^_, _≤_, _<_}
+use native.Mathlib.Omega.{arith}
+use native.Mathlib.Decide.{decLt}
+use mathlib.Core.Path.{_≡_, refl, sym, ap, _∙_}
+use mathlib.Core.Bool.{Bool, true, false, not, cond}
+use mathlib.Core.List.{List, _++_}
+use borrow.Author.Tests.{lt-ltb, le-ltb}
+use lib.Dec.{ltb}
+use lib.Pow.{pow-pos}
+use lib.ListN.{length, take, drop, length-take, length-drop, length-append, length-replicate}
+use Rattle.sets.specs.Set.{minus, without, full}
+use Rattle.sets.specs.SubsetLaws.{minus-none}
+use Rattle.sets.specs.declared.Set.{Set}
+use Rattle.sets.specs.Words.{perSet, mask, groups, masks}
+use Rattle.sets.specs.Words.Groups.{length-groups, append-groups, take-groups, drop-groups}
+use Rattle.sets.specs.Words.Groups.{blank, blank-groups, padded, padded-length, padded-groups}
+
+-- ---- answers
+
+pub without-if-mask : (s v : ℕ) (b : Bool) → minus s (cond b (2 ^ v) 0) ≡ cond b (without s v) s
+without-if-mask s v true = refl
+without-if-mask s v false = minus-none s
+
+-- no mask above that of the vertices below n is below 2 ^ n
+pub below-mask : (s f : Set) (n : ℕ) (r : Bool) → mask f ≡ full n → r ≡ ltb (mask f) (mask s) → not r ≡ ltb (mask s) (2 ^ n)
+below-mask s f n r e q = ap not (q ∙ ap (λ (x : ℕ). ltb x (mask s)) e) ∙ go (decLt (full n) (mask s))
+  where
+    go : Dec (full n < mask s) → not (ltb (full n) (mask s)) ≡ ltb (mask s) (2 ^ n)
+    go (yes l) = ap not (lt-ltb (full n) (mask s) l) ∙ sym (le-ltb (mask s) (2 ^ n) (omega arith))
+    go (no nl) = ap not (le-ltb (full n) (mask s) (omega arith)) ∙ sym (lt-ltb (mask s) (2 ^ n) (omega (arith, pow-pos n)))
+
+-- ---- how many sets
+
+pub count-masks : (ws : List ℕ) → length ws / perSet ≡ length (masks ws)
+unfolding masks
+count-masks ws = sym (length-groups perSet (length ws / perSet) ws)
+
+-- ---- parts of lent words
+
+-- the word at which position n starts lies within the words
+pub offset-fits : (n end : ℕ) (ws : List ℕ) → end ≡ n * perSet → n ≤ length (masks ws) → end ≤ length ws
+offset-fits n end ws e l = omega (arith, e, l, count-masks ws)
+
+pub take-masks : (n : ℕ) (ws : List ℕ) → n ≤ length (masks ws) → masks (take (n * perSet) ws) ≡ take n (masks ws)
+unfolding masks
+take-masks n ws l =
+    let k : n ≤ length ws / perSet = omega (arith, length-groups perSet (length ws / perSet) ws) in
+    let c : n + (length ws / perSet - n) ≡ length ws / perSet = omega arith in
+    let e : length (take (n * perSet) ws) / perSet ≡ n = omega (arith, length-take (n * perSet) ws) in
+    ap (λ (m : ℕ). groups perSet m (take (n * perSet) ws)) e
+    ∙ take-groups perSet n (length ws / perSet - n) ws (omega arith) ∙ ap (λ (m : ℕ). take n (groups perSet m ws)) c
+
+pub drop-masks : (n : ℕ) (ws : List ℕ) → masks (drop (n * perSet) ws) ≡ drop n (masks ws)
+unfolding masks
+drop-masks n ws =
+    let e : length (drop (n * perSet) ws) / perSet ≡ length ws / perSet - n = omega (arith, length-drop (n * perSet) ws) in
+    ap (λ (m : ℕ). groups perSet m (drop (n * perSet) ws)) e ∙ drop-groups perSet n (length ws / perSet) ws
+
+-- m sets in front of words
+pub append-masks : (m : ℕ) (vs ws : List ℕ) → length vs ≡ m * perSet → masks (vs ++ ws) ≡ masks vs ++ masks ws
+unfolding masks
+append-masks m vs ws e =
+    let a : length (vs ++ ws) / perSet ≡ m + length ws / perSet = omega (arith, e, length-append vs ws) in
+    let b : m ≡ length vs / perSet = omega (arith, e) in
+    ap (λ (k : ℕ). groups perSet k (vs ++ ws)) a ∙ append-groups perSet m (length ws / perSet) vs ws e
+    ∙ ap (λ (k : ℕ). groups perSet k vs ++ groups perSet (length ws / perSet) ws) b
+
+pub blank-masks : (n : ℕ) → masks (blank (n * perSet)) ≡ blank n
+unfolding masks
+blank-masks n =
+    let e : length (blank (n * perSet)) / perSet ≡ n = omega (arith, length-replicate {A = ℕ} (n * perSet) 0) in
+    ap (λ (m : ℕ). groups perSet m (blank (n * perSet))) e ∙ blank-groups perSet n
+
+-- numbers of one word each, stored as sets
+pub padded-masks : (xs : List ℕ) → masks (padded (perSet - 1) xs) ≡ xs
+unfolding masks
+padded-masks xs =
+    let e : length (padded (perSet - 1) xs) / perSet ≡ length xs = omega (arith, padded-length (perSet - 1) xs) in
+    ap (λ (m : ℕ). groups perSet m (padded (perSet - 1) xs)) e ∙ padded-groups (perSet - 1) xs
