@@ -7,21 +7,20 @@ use Prim.Native.Nat.{ℕ, _+_, _^_, _≤_, _<_}
 use native.Mathlib.Omega.{arith}
 use native.Mathlib.Nat.{le-refl}
 use native.Mathlib.Decide.{ℕ-discrete}
-use mathlib.Core.Path.{_≡_, sym, ap, _∙_, subst}
+use mathlib.Core.Path.{_≡_, sym, subst}
 use mathlib.Core.Logic.{_≢_}
-use mathlib.Core.Bool.{Bool, true, false, not}
+use mathlib.Core.Bool.{not}
 use mathlib.Core.List.{List}
 use lib.Bits.{bitAnd, bitOr}
 use lib.Count.{ones-le}
 use lib.Pow.{pow-pos, ones-lt}
 use lib.Dec.{T, eqb, eqb→eq, eqb-refl, T-not, not-T}
 use lib.ListN.{length}
-use borrow.Author.Tests.{eqb-true, eqb-false}
 use Rattle.sets.specs.Set.{bit, In, Sub, size, with, without, minus, full}
 use Rattle.sets.specs.Graph.{row}
 use Rattle.sets.specs.Words.{Lowest}
-use Rattle.sets.specs.BitLaws.{ext, bit-le, bit-and, bit-or, bit-minus, bit-pow-same}
-use Rattle.sets.specs.PointLaws.{bit-none, bit-with, in-single, by-bit}
+use Rattle.sets.specs.BitLaws.{bit-le, bit-and, bit-or, bit-minus, bit-pow-same}
+use Rattle.sets.specs.PointLaws.{bit-with, in-single, by-bit, none-out, parts-whole}
 use Rattle.sets.specs.RangeLaws.{and-left, and-right, both, same-test}
 use Rattle.sets.specs.SubsetLaws.{sub-refl, sub-trans, in-of-sub, in-below, with-same, sub-with, minus-sub, positive-of}
 use Rattle.sets.specs.SizeLaws.{positive-size, size-mono, some-member, two-members, and-below}
@@ -36,25 +35,6 @@ use Rattle.search.specs.Found.{found, Found}
 use Rattle.search.specs.FoundLaws.{found-holds, found-test}
 use Rattle.search.specs.Choice.{Pickable}
 use Rattle.search.specs.Cliques.{Common, Covering, touched}
-
--- ---- pointwise
-
-pub none-out : {s : ℕ} → s ≡ 0 → (u : ℕ) → bit s u ≡ 0
-none-out e u = omega (arith, ap (λ (y : ℕ). bit y u) e, bit-none u)
-
-pub none-by : (s : ℕ) → ((u : ℕ) → bit s u ≡ 0) → s ≡ 0
-none-by s f = ext s 0 (λ u. omega (arith, f u, bit-none u))
-
-pub parts-whole : (c d : ℕ) → Sub d c → bitOr (minus c d) d ≡ c
-parts-whole c d part = ext (bitOr (minus c d) d) c (λ u. omega (arith, bit-or (minus c d) d u, bit-minus c d u, part u, bit-le c u))
-
--- ---- the test `is_empty`, whose answer is b
-
-pub empty-holds : {b : Bool} {s : ℕ} → b ≡ eqb s 0 → b ≡ true → s ≡ 0
-empty-holds {b} {s} e t = eqb-true s 0 (sym e ∙ t)
-
-pub empty-fails : {b : Bool} {s : ℕ} → b ≡ eqb s 0 → b ≡ false → 0 < s
-empty-fails {b} {s} e t = positive-of s (eqb-false s 0 (sym e ∙ t))
 
 -- ---- cliques
 

@@ -10,11 +10,11 @@ use lib.Bits.{bitAnd, and-zero-l}
 use lib.Dec.{T, eqb, ltb, eqb→eq, eqb-refl, ltb→lt, nltb→le, not-T}
 use lib.Pow.{pow-pos}
 use lib.ListN.{length}
-use Rattle.sets.specs.Set.{bit, has, In, size, with, without, minus}
+use Rattle.sets.specs.Set.{bit, has, In, size, with, without}
 use Rattle.sets.specs.Graph.{row}
 use Rattle.sets.specs.Words.{Lowest}
 use Rattle.sets.specs.BitLaws.{ext, bit-le, bit-and, bit-or, bit-minus, bit-pow-same, bit-pow-other}
-use Rattle.sets.specs.PointLaws.{bit-none, bit-with, single-in, single-out, by-bit}
+use Rattle.sets.specs.PointLaws.{bit-none, bit-with, single-in, single-out, by-bit, none-out, none-by, minus-self}
 use Rattle.sets.specs.RangeLaws.{and-left, and-right, both, true-holds, false-fails, same-test}
 use Rattle.sets.specs.SubsetLaws.{sub-refl, in-of-sub, positive, with-same, with-below, sub-with, has-in, in-has}
 use Rattle.judging.specs.Request.{Request}
@@ -26,12 +26,9 @@ use Rattle.search.specs.Found.{found, AddsFound}
 use Rattle.search.specs.FoundLaws.{found-holds, found-test}
 use Rattle.search.specs.Ready.{unless}
 use Rattle.search.specs.Cliques.{Covering, Taking, Sweeping}
-use Rattle.search.specs.CliqueLaws.{none-out, none-by, clique-adjacent, cover-all}
+use Rattle.search.specs.CliqueLaws.{clique-adjacent, cover-all}
 use Rattle.search.specs.TakeLaws.{take-pickable, take-vertex, cover-sweeping, cover-adds}
 use Rattle.search.specs.SweepLaws.{Joined, Step, step-taking, Swept, swept-none, swept-more, swept-all}
-
-minus-self : (s : ℕ) → 0 ≡ minus s s
-minus-self s = ext 0 (minus s s) (λ u. omega (arith, bit-minus s s u, bit-none u))
 
 -- ---- no candidate
 

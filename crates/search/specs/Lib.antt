@@ -1,7 +1,6 @@
 -- The search: definitions first, then their laws.
 pub mod Found
 pub mod Trim
-pub mod DropLaws
 pub mod TrimLaws
 pub mod FoundLaws
 pub mod Survey

@@ -31,7 +31,7 @@ use Rattle.bounds.specs.Reach.{reach}
 use Rattle.bounds.specs.ReachLaws.{reach-below, plex-reach}
 use Rattle.lists.specs.Listing.{Listed}
 use Rattle.search.specs.NearRows.{close, pairRow, reachRow, nearRow, Pairing, Filled}
-use Rattle.search.specs.DropLaws.{Dropping, dropping-all}
+use Rattle.sets.specs.DropLaws.{Dropping, dropping-all}
 
 -- ---- pairs
 

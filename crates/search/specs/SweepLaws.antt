@@ -18,7 +18,7 @@ use Rattle.sets.specs.Set.{bit, In, with, without}
 use Rattle.sets.specs.Graph.{row}
 use Rattle.sets.specs.Words.{Lowest}
 use Rattle.sets.specs.BitLaws.{ext, bit-le, bit-and, bit-or, bit-minus}
-use Rattle.sets.specs.PointLaws.{bit-with, single-in, single-out, by-bit}
+use Rattle.sets.specs.PointLaws.{bit-with, single-in, single-out, by-bit, none-out, none-by}
 use Rattle.sets.specs.RangeLaws.{or-cases, or-left, or-right, same-test}
 use Rattle.sets.specs.SubsetLaws.{sub-trans, sub-number, with-sub, with-same, with-below, sub-with, positive, positive-of}
 use Rattle.sets.specs.SizeLaws.{size-with}
@@ -30,7 +30,7 @@ use Rattle.lists.specs.PlacingLaws.{adds-none, adds-same, adds-both}
 use Rattle.search.specs.Found.{found, Found, AddsFound}
 use Rattle.search.specs.FoundLaws.{found-holds, found-test}
 use Rattle.search.specs.Cliques.{touched, Taking, Sweeping}
-use Rattle.search.specs.CliqueLaws.{none-out, none-by, clique-near, common-apart, common-vertex, common-out, common-clique, common-with}
+use Rattle.search.specs.CliqueLaws.{clique-near, common-apart, common-vertex, common-out, common-clique, common-with}
 use Rattle.search.specs.CliqueLaws.{touched-holds, touched-test}
 
 -- ---- pointwise

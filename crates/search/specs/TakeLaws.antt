@@ -18,7 +18,8 @@ use Rattle.search.specs.Found.{found, Found, AddsFound}
 use Rattle.search.specs.FoundLaws.{cut-none}
 use Rattle.search.specs.Choice.{Pickable}
 use Rattle.search.specs.Cliques.{Covering, touched, Taking, Sweeping}
-use Rattle.search.specs.CliqueLaws.{common-vertex, pivot-hits, parts-whole, touched-all}
+use Rattle.search.specs.CliqueLaws.{common-vertex, pivot-hits, touched-all}
+use Rattle.sets.specs.PointLaws.{parts-whole}
 
 module _ {g : List ℕ} {ask : Request} {have s c m : ℕ} (h : Taking g ask have s c m) where
   pub take-fits : have ≤ width

@@ -23,7 +23,7 @@ use Rattle.judging.specs.GraphLaws.{missing-mono, missing-with}
 use Rattle.judging.specs.NarrowLaws.{Narrowed, narrowed-none, narrowed-all}
 use Rattle.search.specs.Found.{Found, Compatible, Near}
 use Rattle.search.specs.Trim.{Blocked, Cheap, Trimmable, DropsBlocked, DropsMissing}
-use Rattle.search.specs.DropLaws.{Dropping, dropping-none, dropping-all}
+use Rattle.sets.specs.DropLaws.{Dropping, dropping-none, dropping-all}
 use Rattle.search.specs.Trim.{Kept, Joinable, Beside}
 
 -- ---- what is kept

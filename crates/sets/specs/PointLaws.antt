@@ -6,8 +6,9 @@ use native.Mathlib.Omega.{arith}
 use native.Mathlib.Decide.{ℕ-discrete}
 use mathlib.Core.Path.{_≡_, ap}
 use lib.Pow.{pow-pos}
-use Rattle.sets.specs.Set.{bit, In, with, without}
-use Rattle.sets.specs.BitLaws.{bit-le, bit-or, bit-minus, bit-high, bit-pow-other}
+use lib.Bits.{bitOr}
+use Rattle.sets.specs.Set.{bit, In, Sub, with, minus, without}
+use Rattle.sets.specs.BitLaws.{bit-le, bit-or, bit-minus, bit-high, bit-pow-other, ext}
 
 -- a member or not
 pub by-bit : {P : Type 0} (s v : ℕ) → (In v s → P) → (bit s v ≡ 0 → P) → P
@@ -45,3 +46,17 @@ single-in t v u i = by-bit (2 ^ v) u (λ e. omega (arith, ap (bit t) (in-single 
 
 pub single-out : (t v u : ℕ) → bit t v ≡ 0 → bit t u + bit (2 ^ v) u ≤ 1
 single-out t v u o = by-bit (2 ^ v) u (λ e. omega (arith, ap (bit t) (in-single v u e))) (λ z. omega (arith, bit-le t u))
+
+-- ---- sets that their digits show to be equal
+
+pub none-out : {s : ℕ} → s ≡ 0 → (u : ℕ) → bit s u ≡ 0
+none-out e u = omega (arith, ap (λ (y : ℕ). bit y u) e, bit-none u)
+
+pub none-by : (s : ℕ) → ((u : ℕ) → bit s u ≡ 0) → s ≡ 0
+none-by s f = ext s 0 (λ u. omega (arith, f u, bit-none u))
+
+pub minus-self : (s : ℕ) → 0 ≡ minus s s
+minus-self s = ext 0 (minus s s) (λ u. omega (arith, bit-minus s s u, bit-none u))
+
+pub parts-whole : (c d : ℕ) → Sub d c → bitOr (minus c d) d ≡ c
+parts-whole c d part = ext (bitOr (minus c d) d) c (λ u. omega (arith, bit-or (minus c d) d u, bit-minus c d u, part u, bit-le c u))

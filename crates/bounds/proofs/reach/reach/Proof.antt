@@ -26,7 +26,7 @@ is-empty-requires : tie.Need-is-empty-requires Inv-loop μ-loop
 is-empty-requires c κs = search needs
 
 lowest-requires : tie.Need-lowest-requires Inv-loop μ-loop
-lowest-requires c κs = walk-goes-on _ _ (c .before .is-empty .ensures) (c .if1 .taken)
+lowest-requires c κs = walk-goes-on (c .before .is-empty .ensures) (c .if1 .taken)
 
 get-requires-2 : tie.Need-get-requires-2 Inv-loop μ-loop
 get-requires-2 c κs =
@@ -41,7 +41,7 @@ rest-requires : tie.Need-rest-requires Inv-loop μ-loop
 rest-requires c κs = search needs
 
 loop-less : tie.Need-loop-less Inv-loop μ-loop
-loop-less c = walk-falls _ _ _ (c .before .before .before .lowest .ensures) (c .rest .ensures)
+loop-less c = walk-falls (c .before .before .before .lowest .ensures) (c .rest .ensures)
 
 loop-again : tie.Need-loop-again Inv-loop μ-loop
 loop-again c =
@@ -53,7 +53,7 @@ loop-again c =
     (reaching-next low (get-requires-2 found (joined .get2 .lifetimes)) (turn .loop .inv) (found .lowest .ensures))
 
 returns : tie.Need-returns Inv-loop μ-loop
-returns c = reaching-all (c .before .before .loop .inv) (walk-over _ _ (c .before .is-empty .ensures) (c .if1 .left))
+returns c = reaching-all (c .before .before .loop .inv) (walk-over (c .before .is-empty .ensures) (c .if1 .left))
 
 pub reach-spec : {M : Type 1} → statement M
 reach-spec =

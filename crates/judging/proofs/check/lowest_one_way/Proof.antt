@@ -36,7 +36,7 @@ loop-holds : tie.Need-loop-holds Inv-loop μ-loop Inv-rows μ-rows
 loop-holds c = subst (Walked _ _) (sym (c .get .ensures)) (walk-none _ _)
 
 lowest-requires : tie.Need-lowest-requires Inv-loop μ-loop Inv-rows μ-rows
-lowest-requires c κs = walk-goes-on _ _ (c .before .is-empty .ensures) (c .if1 .taken)
+lowest-requires c κs = walk-goes-on (c .before .is-empty .ensures) (c .if1 .taken)
 
 get-requires-2 : tie.Need-get-requires-2 Inv-loop μ-loop Inv-rows μ-rows
 get-requires-2 c κs =
@@ -47,7 +47,7 @@ rest-requires : tie.Need-rest-requires Inv-loop μ-loop Inv-rows μ-rows
 rest-requires c κs = c .before .before .before .lowest .ensures
 
 loop-less : tie.Need-loop-less Inv-loop μ-loop Inv-rows μ-rows
-loop-less c = walk-falls _ _ _ (c .before .before .before .before .lowest .ensures) (c .rest .ensures)
+loop-less c = walk-falls (c .before .before .before .before .lowest .ensures) (c .rest .ensures)
 
 loop-again : tie.Need-loop-again Inv-loop μ-loop Inv-rows μ-rows
 loop-again c =
@@ -60,7 +60,7 @@ rows-again c = (
   omega arith,
   below-more _ _ (c .before .before .before .before .before .rows .inv .1)
       (one-way-none _ _
-      (walk-all _ _ _ (walk-over _ _ (c .before .is-empty .ensures) (c .if1 .left)) (c .before .before .loop .inv))),
+      (walk-all _ _ _ (walk-over (c .before .is-empty .ensures) (c .if1 .left)) (c .before .before .loop .inv))),
 )
 
 returns : tie.Need-returns Inv-loop μ-loop Inv-rows μ-rows

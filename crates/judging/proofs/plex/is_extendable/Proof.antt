@@ -28,7 +28,7 @@ is-empty-requires : tie.Need-is-empty-requires Inv-loop μ-loop
 is-empty-requires c κs = tt
 
 lowest-requires : tie.Need-lowest-requires Inv-loop μ-loop
-lowest-requires c κs = walk-goes-on _ _ (c .before .is-empty .ensures) (c .if1 .taken)
+lowest-requires c κs = walk-goes-on (c .before .is-empty .ensures) (c .if1 .taken)
 
 missing-requires : tie.Need-missing-requires Inv-loop μ-loop
 missing-requires c κs = walk-below _ _ _ _ (unblocked-below _ _ _) (turn c .loop .inv .part) (c .lowest .ensures)
@@ -42,13 +42,13 @@ rest-requires : tie.Need-rest-requires Inv-loop μ-loop
 rest-requires c κs = c .before .before .lowest .ensures
 
 loop-less : tie.Need-loop-less Inv-loop μ-loop
-loop-less c = walk-falls _ _ _ (c .before .before .before .lowest .ensures) (c .rest .ensures)
+loop-less c = walk-falls (c .before .before .before .lowest .ensures) (c .rest .ensures)
 
 loop-again : tie.Need-loop-again Inv-loop μ-loop
 loop-again c = walk-next _ _ _ _ _ (c .rest .ensures) (turn (c .before .before .before) .loop .inv) (omega arith)
 
 returns-2 : tie.Need-returns-2 Inv-loop μ-loop
-returns-2 c = extendable-by-none _ _ _ (c .before .before .loop .inv) (walk-over _ _ (c .before .is-empty .ensures) (c .if1 .left))
+returns-2 c = extendable-by-none _ _ _ (c .before .before .loop .inv) (walk-over (c .before .is-empty .ensures) (c .if1 .left))
 
 pub is-extendable-spec : {M : Type 1} → statement M
 is-extendable-spec =

@@ -25,7 +25,7 @@ turn c = c .before .before .before
 
 -- what is to come falls
 falls : (c : tie.After-rest Inv-loop μ-loop) → mask (c .rest .result) < mask (turn (c .before) .loop .left)
-falls c = walk-falls _ _ _ (c .before .lowest .ensures) (c .rest .ensures)
+falls c = walk-falls (c .before .lowest .ensures) (c .rest .ensures)
 
 count-requires : tie.Need-count-requires Inv-loop μ-loop
 count-requires c κs = tt
@@ -45,7 +45,7 @@ is-empty-requires : tie.Need-is-empty-requires Inv-loop μ-loop
 is-empty-requires c κs = tt
 
 lowest-requires : tie.Need-lowest-requires Inv-loop μ-loop
-lowest-requires c κs = walk-goes-on _ _ (c .before .is-empty .ensures) (c .if1 .taken)
+lowest-requires c κs = walk-goes-on (c .before .is-empty .ensures) (c .if1 .taken)
 
 rest-requires : tie.Need-rest-requires Inv-loop μ-loop
 rest-requires c κs = c .lowest .ensures
@@ -81,7 +81,7 @@ loop-again-2 c =
     narrowed-same (turn at .loop .inv) (at .lowest .ensures) (rest .rest .ensures) (omega arith)
 
 returns : tie.Need-returns Inv-loop μ-loop
-returns c = narrowed-unblocked (walk-over _ _ (c .before .is-empty .ensures) (c .if1 .left)) (c .before .before .loop .inv)
+returns c = narrowed-unblocked (walk-over (c .before .is-empty .ensures) (c .if1 .left)) (c .before .before .loop .inv)
 
 pub unblocked-spec : {M : Type 1} → statement M
 unblocked-spec =

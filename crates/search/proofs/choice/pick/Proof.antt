@@ -19,7 +19,7 @@ turn c = c .before .before .before
 
 -- what is to come falls
 falls : (c : tie.After-rest Inv-loop μ-loop) → mask (c .rest .result) < mask (turn (c .before) .loop .left)
-falls c = walk-falls _ _ _ (c .before .lowest2 .ensures) (c .rest .ensures)
+falls c = walk-falls (c .before .lowest2 .ensures) (c .rest .ensures)
 
 lowest-requires : tie.Need-lowest-requires Inv-loop μ-loop
 lowest-requires c κs = c .before .pre .some
@@ -31,7 +31,7 @@ is-empty-requires : tie.Need-is-empty-requires Inv-loop μ-loop
 is-empty-requires c κs = tt
 
 lowest-requires-2 : tie.Need-lowest-requires-2 Inv-loop μ-loop
-lowest-requires-2 c κs = walk-goes-on _ _ (c .before .is-empty .ensures) (c .if1 .taken)
+lowest-requires-2 c κs = walk-goes-on (c .before .is-empty .ensures) (c .if1 .taken)
 
 rest-requires : tie.Need-rest-requires Inv-loop μ-loop
 rest-requires c κs = c .lowest2 .ensures

@@ -13,8 +13,7 @@ use lib.ListN.{length}
 use Rattle.judging.specs.Request.{request}
 use Rattle.sets.specs.Set.{with}
 use Rattle.sets.specs.Words.{mask, masks}
-use Rattle.sets.specs.WalkLaws.{walk-falls, walk-goes-on, walk-over}
-use Rattle.search.specs.CliqueLaws.{empty-holds, empty-fails}
+use Rattle.sets.specs.WalkLaws.{walk-falls, walk-goes-on, walk-over, empty-holds, empty-fails}
 use Rattle.search.specs.SweepLaws.{sweep-vertex, Step, step, step-taking, Swept, swept-none, swept-falls, swept-more, swept-all}
 use Rattle.search.specs.TakeLaws.{take-fits, few-adds, take-pickable, take-same, take-adds, cover-candidates, cover-sweeping, cover-adds}
 use Rattle.search.specs.EndLaws.{one-left, two-left}
@@ -157,7 +156,7 @@ module _ (t : ℕ) where
   sweep-is-empty-requires c κs = tt
 
   sweep-lowest-requires : sweep-lts.Need-lowest-requires (sweep-calls t) (sweep-at t) sweep.Post Inv-loop μ-loop
-  sweep-lowest-requires c κs = walk-goes-on _ _ (c .before .is-empty .ensures) (c .if1 .taken)
+  sweep-lowest-requires c κs = walk-goes-on (c .before .is-empty .ensures) (c .if1 .taken)
 
   sweep-get-requires : sweep-lts.Need-get-requires (sweep-calls t) (sweep-at t) sweep.Post Inv-loop μ-loop
   sweep-get-requires c κs = vertex c
@@ -189,7 +188,7 @@ module _ (t : ℕ) where
   sweep-loop-less : sweep-lts.Need-loop-less (sweep-calls t) (sweep-at t) sweep.Post Inv-loop μ-loop
   sweep-loop-less c =
       let at = c .before .before .before .before in
-      walk-falls _ _ _ (joined at .before .before .lowest .ensures) (at .before .rest .ensures)
+      walk-falls (joined at .before .before .lowest .ensures) (at .before .rest .ensures)
 
   sweep-loop-again : sweep-lts.Need-loop-again (sweep-calls t) (sweep-at t) sweep.Post Inv-loop μ-loop
   sweep-loop-again c =
@@ -201,7 +200,7 @@ module _ (t : ℕ) where
   sweep-same-length c = c .before .before .loop .inv .1
 
   sweep-returns : sweep-lts.Need-returns (sweep-calls t) (sweep-at t) sweep.Post Inv-loop μ-loop
-  sweep-returns c = swept-all (c .before .before .loop .inv .0) (walk-over _ _ (c .before .is-empty .ensures) (c .if1 .left))
+  sweep-returns c = swept-all (c .before .before .loop .inv .0) (walk-over (c .before .is-empty .ensures) (c .if1 .left))
 
 -- ---- take
 

@@ -33,7 +33,7 @@ is-empty-requires : tie.Need-is-empty-requires Inv-loop μ-loop
 is-empty-requires c κs = search needs
 
 lowest-requires : tie.Need-lowest-requires Inv-loop μ-loop
-lowest-requires c κs = walk-goes-on _ _ (c .before .is-empty .ensures) (c .if1 .taken)
+lowest-requires c κs = walk-goes-on (c .before .is-empty .ensures) (c .if1 .taken)
 
 rest-requires : tie.Need-rest-requires Inv-loop μ-loop
 rest-requires c κs = search needs
@@ -45,7 +45,7 @@ meet-requires : tie.Need-meet-requires Inv-loop μ-loop
 meet-requires c κs = search needs
 
 loop-less : tie.Need-loop-less Inv-loop μ-loop
-loop-less c = let passed = c .before .before in walk-falls _ _ _ (passed .before .lowest .ensures) (passed .rest .ensures)
+loop-less c = let passed = c .before .before in walk-falls (passed .before .lowest .ensures) (passed .rest .ensures)
 
 loop-again : tie.Need-loop-again Inv-loop μ-loop
 loop-again c =
@@ -53,7 +53,7 @@ loop-again c =
     sharing-next (turn passed .loop .inv) (passed .before .lowest .ensures) (passed .rest .ensures) (c .before .get .ensures) (c .meet .ensures)
 
 returns : tie.Need-returns Inv-loop μ-loop
-returns c = sharing-all (c .before .before .loop .inv) (walk-over _ _ (c .before .is-empty .ensures) (c .if1 .left))
+returns c = sharing-all (c .before .before .loop .inv) (walk-over (c .before .is-empty .ensures) (c .if1 .left))
 
 pub common-spec : {M : Type 1} → statement M
 common-spec =

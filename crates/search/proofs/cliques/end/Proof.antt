@@ -1,6 +1,6 @@
 -- A clique with no common neighbour is maximal; any other could be grown by one, and adds nothing.
 use borrow.Author.Needs.{needs}
-use Rattle.search.specs.CliqueLaws.{empty-holds, empty-fails}
+use Rattle.sets.specs.WalkLaws.{empty-holds, empty-fails}
 use Rattle.search.specs.EndLaws.{lonely-below, lonely-adds, end-none}
 use Rattle.search.proofs.cliques.end.Statement.{statement}
 use Rattle.search.proofs.cliques.end.Tie as tie

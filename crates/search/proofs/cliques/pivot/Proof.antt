@@ -25,7 +25,7 @@ is-empty-requires : tie.Need-is-empty-requires Inv-loop μ-loop
 is-empty-requires c κs = tt
 
 lowest-requires : tie.Need-lowest-requires Inv-loop μ-loop
-lowest-requires c κs = walk-goes-on _ _ (c .before .is-empty .ensures) (c .if1 .taken)
+lowest-requires c κs = walk-goes-on (c .before .is-empty .ensures) (c .if1 .taken)
 
 rest-requires : tie.Need-rest-requires Inv-loop μ-loop
 rest-requires c κs = c .lowest .ensures
@@ -45,7 +45,7 @@ returns c =
     pivoting-covers (turn at .loop .inv) (at .before .lowest .ensures) (c .before .before .before .get .ensures) (c .before .before .minus .ensures)
 
 loop-less : tie.Need-loop-less Inv-loop μ-loop
-loop-less c = let at = passed (c .before .before) in walk-falls _ _ _ (at .before .lowest .ensures) (at .rest .ensures)
+loop-less c = let at = passed (c .before .before) in walk-falls (at .before .lowest .ensures) (at .rest .ensures)
 
 loop-again : tie.Need-loop-again Inv-loop μ-loop
 loop-again c =
@@ -55,7 +55,7 @@ loop-again c =
     (pivoting-covers (turn at .loop .inv) (at .before .lowest .ensures) (missed .before .get .ensures) (missed .minus .ensures))
 
 loop-less-2 : tie.Need-loop-less-2 Inv-loop μ-loop
-loop-less-2 c = let at = passed (c .before .before) in walk-falls _ _ _ (at .before .lowest .ensures) (at .rest .ensures)
+loop-less-2 c = let at = passed (c .before .before) in walk-falls (at .before .lowest .ensures) (at .rest .ensures)
 
 loop-again-2 : tie.Need-loop-again-2 Inv-loop μ-loop
 loop-again-2 c =

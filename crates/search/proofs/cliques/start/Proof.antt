@@ -1,6 +1,6 @@
 -- With no candidate the clique is at its end; else a sweep over the candidates of a pivot adds what is to be found.
 use borrow.Author.Needs.{needs}
-use Rattle.search.specs.CliqueLaws.{empty-holds, empty-fails}
+use Rattle.sets.specs.WalkLaws.{empty-holds, empty-fails}
 use Rattle.search.specs.TakeLaws.{take-same, take-adds, take-pickable, cover-sweeping, cover-adds}
 use Rattle.search.proofs.cliques.start.Statement.{statement}
 use Rattle.search.proofs.cliques.start.Tie as tie

@@ -5,7 +5,7 @@ use native.Mathlib.Omega.{arith}
 use Rattle.sets.specs.SizeLaws.{minus-below}
 use Rattle.sets.specs.Words.{mask, masks}
 use Rattle.sets.specs.WalkLaws.{walk-falls, walk-goes-on, walk-over}
-use Rattle.search.specs.DropLaws.{Dropping, dropping-none, dropping-vertex, dropping-next}
+use Rattle.sets.specs.DropLaws.{Dropping, dropping-none, dropping-vertex, dropping-next}
 use Rattle.search.specs.NearRows.{close}
 use Rattle.search.specs.NearRowsLaws.{pair-row-all}
 use Rattle.search.proofs.near.pair_row.Statement.{statement}
@@ -33,7 +33,7 @@ is-empty-requires : tie.Need-is-empty-requires Inv-loop μ-loop
 is-empty-requires c κs = tt
 
 lowest-requires : tie.Need-lowest-requires Inv-loop μ-loop
-lowest-requires c κs = walk-goes-on _ _ (c .before .is-empty .ensures) (c .if1 .taken)
+lowest-requires c κs = walk-goes-on (c .before .is-empty .ensures) (c .if1 .taken)
 
 rest-requires : tie.Need-rest-requires Inv-loop μ-loop
 rest-requires c κs = c .lowest .ensures
@@ -50,7 +50,7 @@ without-if-requires c κs = c .before .before .lowest .ensures .fits
 loop-less : tie.Need-loop-less Inv-loop μ-loop
 loop-less c =
     let rest = c .before .before in
-    walk-falls _ _ _ (rest .before .lowest .ensures) (rest .rest .ensures)
+    walk-falls (rest .before .lowest .ensures) (rest .rest .ensures)
 
 loop-again : tie.Need-loop-again Inv-loop μ-loop
 loop-again c =
@@ -62,7 +62,7 @@ loop-again c =
 returns : tie.Need-returns Inv-loop μ-loop
 returns c =
     let end = c .before .before in
-    let over = walk-over _ _ (c .before .is-empty .ensures) (c .if1 .left) in
+    let over = walk-over (c .before .is-empty .ensures) (c .if1 .left) in
     pair-row-all _ _ _ _ _ _ over (rw (end .before .without .ensures) at (end .loop .inv))
 
 pub pair-row-spec : {M : Type 1} → statement M

@@ -20,7 +20,7 @@ turn c = c .before .before .before
 
 -- what is to come falls
 falls : (c : tie.After-rest Inv-loop μ-loop) → mask (c .rest .result) < mask (turn (c .before) .loop .left)
-falls c = walk-falls _ _ _ (c .before .lowest .ensures) (c .rest .ensures)
+falls c = walk-falls (c .before .lowest .ensures) (c .rest .ensures)
 
 count-requires : tie.Need-count-requires Inv-loop μ-loop
 count-requires c κs = tt
@@ -40,7 +40,7 @@ is-empty-requires : tie.Need-is-empty-requires Inv-loop μ-loop
 is-empty-requires c κs = tt
 
 lowest-requires : tie.Need-lowest-requires Inv-loop μ-loop
-lowest-requires c κs = walk-goes-on _ _ (c .before .is-empty .ensures) (c .if1 .taken)
+lowest-requires c κs = walk-goes-on (c .before .is-empty .ensures) (c .if1 .taken)
 
 rest-requires : tie.Need-rest-requires Inv-loop μ-loop
 rest-requires c κs = c .lowest .ensures
@@ -79,7 +79,7 @@ loop-again-2 c =
     (c .before .narrow .ensures) (c .if2 .left)
 
 returns : tie.Need-returns Inv-loop μ-loop
-returns c = finding-all (walk-over _ _ (c .before .is-empty .ensures) (c .if1 .left)) (c .before .before .loop .inv)
+returns c = finding-all (walk-over (c .before .is-empty .ensures) (c .if1 .left)) (c .before .before .loop .inv)
 
 pub survey-spec : {M : Type 1} → statement M
 survey-spec =

@@ -6,7 +6,7 @@ use Rattle.sets.specs.Set.{minus}
 use Rattle.sets.specs.Graph.{row}
 use Rattle.sets.specs.Words.{mask, masks}
 use Rattle.sets.specs.WalkLaws.{walk-falls, walk-goes-on, walk-over}
-use Rattle.search.specs.DropLaws.{Dropping, dropping-vertex, dropping-next}
+use Rattle.sets.specs.DropLaws.{Dropping, dropping-vertex, dropping-next}
 use Rattle.search.specs.TrimLaws.{costly, drops-missing-none, drops-missing-all}
 use Rattle.search.proofs.trim.drop_missing.Statement.{statement}
 use Rattle.search.proofs.trim.drop_missing.Tie as tie
@@ -36,7 +36,7 @@ is-empty-requires : tie.Need-is-empty-requires Inv-loop μ-loop
 is-empty-requires c κs = tt
 
 lowest-requires : tie.Need-lowest-requires Inv-loop μ-loop
-lowest-requires c κs = walk-goes-on _ _ (c .before .is-empty .ensures) (c .if1 .taken)
+lowest-requires c κs = walk-goes-on (c .before .is-empty .ensures) (c .if1 .taken)
 
 rest-requires : tie.Need-rest-requires Inv-loop μ-loop
 rest-requires c κs = c .lowest .ensures
@@ -50,7 +50,7 @@ without-if-requires c κs = c .before .before .lowest .ensures .fits
 loop-less : tie.Need-loop-less Inv-loop μ-loop
 loop-less c =
     let rest = c .before .before in
-    walk-falls _ _ _ (rest .before .lowest .ensures) (rest .rest .ensures)
+    walk-falls (rest .before .lowest .ensures) (rest .rest .ensures)
 
 loop-again : tie.Need-loop-again Inv-loop μ-loop
 loop-again c =
@@ -62,7 +62,7 @@ returns : tie.Need-returns Inv-loop μ-loop
 returns c =
     let end = c .before .before in
     let start = end .before .before .before .before in
-    drops-missing-all (start .pre) _ (walk-over _ _ (c .before .is-empty .ensures) (c .if1 .left)) (end .loop .inv)
+    drops-missing-all (start .pre) _ (walk-over (c .before .is-empty .ensures) (c .if1 .left)) (end .loop .inv)
 
 pub drop-missing-spec : {M : Type 1} → statement M
 drop-missing-spec =
