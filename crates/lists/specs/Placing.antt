@@ -2,7 +2,7 @@
 --
 --   passing N P      the masks below N that pass P, in rising order: the list is passing (2 ^ n) (listed g ask)
 --   number N P       how many they are
---   union P Q        the masks that pass P and those that pass Q;  only x, the mask x alone
+--   union P Q        the masks that pass P and those that pass Q;  only x, the mask x alone;  unless b x, the same, and nothing where b is true
 --   Apart N P Q      no mask below N passes both
 --   capped n         n, or 2 ^ 64 - 1 where n is greater: the count stops there
 --   Held first xs slots              while they fit, slots hold the masks xs, in any order, and after them what first held there
@@ -10,7 +10,7 @@
 --   Adds N Q before count after r    the step from (before, count) to (after, r) adds the masks that pass Q
 use Prim.Native.Nat.{ℕ, _-_, _^_, _≤_, _<_, min}
 use mathlib.Core.Path.{_≡_}
-use mathlib.Core.Bool.{Bool, _||_}
+use mathlib.Core.Bool.{Bool, not, _&&_, _||_}
 use mathlib.Core.List.{List}
 use lib.Dec.{T, eqb}
 use lib.ListN.{length, take, drop}
@@ -28,6 +28,9 @@ union P Q x = P x || Q x
 
 abbrev pub only : ℕ → ℕ → Bool
 only x y = eqb y x
+
+abbrev pub unless : Bool → ℕ → ℕ → Bool
+unless b x y = not b && eqb y x
 
 abbrev pub Apart : ℕ → (ℕ → Bool) → (ℕ → Bool) → Type 0
 Apart N P Q = (x : ℕ) → x < N → T (P x) → T (Q x) → ⊥

@@ -10,7 +10,7 @@ use lib.ListN.{length}
 use Rattle.sets.specs.Ranges.{from, range, keep}
 use Rattle.sets.specs.RangeLaws.{length-from, mem-range, range-mem, keep-mem, mem-keep, or-cases, or-left, or-right}
 use Rattle.sets.specs.SumLaws.{length-total}
-use Rattle.lists.specs.Placing.{passing, number, union, only, Apart, capped, Held, Holds, Adds}
+use Rattle.lists.specs.Placing.{passing, number, union, only, unless, Apart, capped, Held, Holds, Adds}
 use Rattle.sets.specs.KeepLaws.{keep-ext, keep-none, keep-length, keep-rising, total-either}
 use Rattle.lists.specs.OrderLaws.{rising-unique}
 
@@ -104,3 +104,12 @@ module _ (N : ℕ) where
   -- what the slots hold when all is added
   pub adds-all : (Q : ℕ → Bool) (first after : List ℕ) (m : ℕ) → Adds N Q first 0 after m → Holds N first Q after m
   adds-all Q first after m s = s .holds first (λ x. false) (λ x l p q. p) (holds-none first (λ x. false) (λ x l p. p))
+
+-- ---- a mask of which it is known whether it is to be added
+
+module _ {N : ℕ} {b : Bool} (x : ℕ) where
+  pub unless-none : {slots : List ℕ} {count : ℕ} → b ≡ true → Adds N (unless b x) slots count slots count
+  unless-none e = adds-none N (unless b x) _ _ (λ y l z. subst (λ (u : Bool). T (unless u x y)) e z)
+
+  pub unless-more : {before after : List ℕ} {count r : ℕ} → b ≡ false → Adds N (only x) before count after r → Adds N (unless b x) before count after r
+  unless-more e s = adds-same N (only x) (unless b x) _ _ _ _ (λ y l. ap (λ (u : Bool). unless u x y) (sym e)) s

@@ -20,11 +20,10 @@ use Rattle.sets.specs.SubsetLaws.{sub-refl, in-of-sub, positive, with-same, wit
 use Rattle.judging.specs.Request.{Request}
 use Rattle.judging.specs.Plex.{Plex, Maximal}
 use Rattle.judging.specs.PlexLaws.{maximal-by-one}
-use Rattle.lists.specs.Placing.{Adds}
+use Rattle.lists.specs.Placing.{Adds, unless}
 use Rattle.lists.specs.PlacingLaws.{adds-same}
 use Rattle.search.specs.Found.{found, AddsFound}
 use Rattle.search.specs.FoundLaws.{found-holds, found-test}
-use Rattle.search.specs.Ready.{unless}
 use Rattle.search.specs.Cliques.{Covering, Taking, Sweeping}
 use Rattle.search.specs.CliqueLaws.{clique-adjacent, cover-all}
 use Rattle.search.specs.TakeLaws.{take-pickable, take-vertex, cover-sweeping, cover-adds}

@@ -26,7 +26,8 @@ use Rattle.lists.specs.Listing.{listed}
 use Rattle.lists.specs.ListingLaws.{listed-holds, listed-test}
 use Rattle.lists.specs.Placing.{Apart, union}
 use Rattle.search.specs.Found.{found, Found, Empty, Short}
-use Rattle.search.specs.Trim.{Kept, Beside}
+use Rattle.search.specs.TrimLaws.{kept-found}
+use Rattle.search.specs.Trim.{Beside}
 
 -- ---- the test and the statement
 
@@ -112,16 +113,6 @@ bounded-empty {g} {ask} {s} {c} {v} b e z l x f =
 -- ---- with and without a candidate v
 
 module _ {g : List ℕ} {ask : Request} {s c : ℕ} where
-  -- nothing found is lost with the candidates that are not kept
-  pub kept-found : {r x : ℕ} → Kept g ask s c r → Found g ask s c x → Found g ask s r x
-  kept-found {r} {x} h f = record { lower = f .lower; upper = within; listed = f .listed }
-    where
-      within : Sub x (bitOr s r)
-      within u =
-          by-bit x u
-          (λ i. by-bit c u (λ m. omega (arith, h .keeps x f u i m, bit-or s r u)) (λ o. omega (arith, f .upper u, bit-or s c u, bit-or s r u)))
-          (λ o. omega arith)
-
   pub without-found : (v : ℕ) {x : ℕ} → Found g ask s c x → bit x v ≡ 0 → Found g ask s (without c v) x
   without-found v {x} f o =
       record {

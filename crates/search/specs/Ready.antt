@@ -5,12 +5,9 @@
 --   Whole g t ask s c a         the same, and a is s and c together
 --   Split g t ask s c v r rest  a vertex v of c is branched on: r are the candidates kept beside it, and rest those without it
 --   LeafReady g k a free        a is a set of vertices of the graph, and free are those that no member of a blocks
---   unless b x                  the mask x alone, and nothing where b is true
 use Prim.Native.Nat.{ℕ, _^_, _≤_, _<_}
-use mathlib.Core.Path.{_≡_, sym, ap, subst}
-use mathlib.Core.Bool.{Bool, true, false, not, _&&_}
+use mathlib.Core.Path.{_≡_}
 use mathlib.Core.List.{List}
-use lib.Dec.{T, eqb}
 use lib.Bits.{bitOr}
 use lib.ListN.{length}
 use Rattle.sets.specs.Set.{In, without}
@@ -20,8 +17,6 @@ use Rattle.judging.specs.Graph.{Valid}
 use Rattle.judging.specs.Refusal.{mostSlack}
 use Rattle.judging.specs.Plex.{unblocked}
 use Rattle.judging.specs.Setting.{Sized}
-use Rattle.lists.specs.Placing.{only, Adds}
-use Rattle.lists.specs.PlacingLaws.{adds-none, adds-same}
 use Rattle.search.specs.Found.{Compatible, Near}
 use Rattle.search.specs.Trim.{Beside}
 
@@ -50,15 +45,3 @@ pub record Split (g t : List ℕ) (ask : Request) (s c v r rest : ℕ) : Type 0 
 pub record LeafReady (g : List ℕ) (k a free : ℕ) : Type 0 where
   pub below : a < 2 ^ length g
   pub unblocking : free ≡ unblocked g k a
-
-abbrev pub unless : Bool → ℕ → ℕ → Bool
-unless b x y = not b && eqb y x
-
--- ---- what is added of a mask, where it is known whether it is to be placed
-
-pub unless-none : (N : ℕ) (b : Bool) (a : ℕ) (slots : List ℕ) (count : ℕ) → b ≡ true → Adds N (unless b a) slots count slots count
-unless-none N b a slots count e = adds-none N (unless b a) slots count (λ y l z. subst (λ (u : Bool). T (unless u a y)) e z)
-
-pub unless-one : (N : ℕ) (b : Bool) (a : ℕ) (before after : List ℕ) (count r : ℕ) → b ≡ false
-    → Adds N (only a) before count after r → Adds N (unless b a) before count after r
-unless-one N b a before after count r e x = adds-same N (only a) (unless b a) before after count r (λ y l. ap (λ (u : Bool). unless u a y) (sym e)) x

@@ -20,7 +20,7 @@ use Rattle.judging.specs.Graph.{missing}
 use Rattle.judging.specs.Plex.{Plex, extendable}
 use Rattle.judging.specs.Setting.{Inside}
 use Rattle.bounds.specs.BoundSetting.{Boundable}
-use Rattle.lists.specs.Placing.{union, Adds}
+use Rattle.lists.specs.Placing.{union, Adds, unless}
 use Rattle.lists.specs.PlacingLaws.{adds-none, adds-same, adds-both}
 use Rattle.search.specs.Found.{found, Empty, Compatible, Short}
 use Rattle.search.specs.FoundLaws.{found-holds, found-test, cut-none, short-empty, stuck-empty, extendable-empty, leaf-found, leaf-only}
@@ -29,7 +29,7 @@ use Rattle.search.specs.Partition.{Between}
 use Rattle.search.specs.TrimLaws.{trimmed-compatible}
 use Rattle.search.specs.Trim.{Trimmable, Joinable, Beside}
 use Rattle.search.specs.Sift.{Siftable}
-use Rattle.search.specs.Ready.{Ready, Whole, Split, unless}
+use Rattle.search.specs.Ready.{Ready, Whole, Split}
 
 -- ---- what the callees ask of a candidate v
 

@@ -13,7 +13,7 @@ use Rattle.sets.specs.Words.Masks.{count-masks}
 use Rattle.sets.specs.BitLaws.{bit-or}
 use Rattle.sets.specs.PointLaws.{bit-none, bit-with, in-single}
 use Rattle.sets.specs.RangeLaws.{same-test}
-use Rattle.sets.specs.WordLaws.{bit-full}
+use Rattle.sets.specs.WordLaws.{sub-full}
 use Rattle.sets.specs.SubsetLaws.{sub-of-in, in-of-sub, in-below, sub-with, with-same, with-below}
 use Rattle.judging.specs.Request.{Request, request}
 use Rattle.judging.specs.Graph.{missing}
@@ -54,7 +54,7 @@ module _ {g : List ℕ} {ask : Request} {c : ℕ} where
       rw e
       (record {
         below = ones-lt (length g);
-        holds = λ x h. sub-of-in x (full (length g)) (λ v i. bit-full (length g) v (in-below (length g) x v (h .below) i));
+        holds = λ x h. sub-full (length g) x (h .below);
       })
 
   pub start-pairing : Accepted g ask → Candidates g ask c → Pairing g ask c

@@ -15,7 +15,7 @@ use Rattle.sets.specs.Set.{bit, In, Sub, with, without, minus}
 use Rattle.sets.specs.Graph.{row}
 use Rattle.sets.specs.BitLaws.{bit-le, bit-and, bit-or, bit-minus}
 use Rattle.sets.specs.PointLaws.{bit-with, single-in, single-out, by-bit}
-use Rattle.sets.specs.SubsetLaws.{sub-of-in, sub-trans, sub-below, with-sub, with-same, with-below, in-of-sub, in-below, without-same, minus-sub}
+use Rattle.sets.specs.SubsetLaws.{sub-trans, sub-below, with-sub, with-same, with-below, in-of-sub, in-below, without-same, minus-sub}
 use Rattle.sets.specs.SizeLaws.{and-below, minus-below}
 use Rattle.judging.specs.Request.{Request, request}
 use Rattle.judging.specs.Graph.{missing, Valid}
@@ -29,19 +29,19 @@ use Rattle.search.specs.Trim.{Kept, Joinable, Beside}
 -- ---- what is kept
 
 module _ {g : List ℕ} {ask : Request} {s : ℕ} where
+  -- nothing found is lost
+  pub kept-found : {c r x : ℕ} → Kept g ask s c r → Found g ask s c x → Found g ask s r x
+  kept-found {c} {r} {x} h f = record { lower = f .lower; upper = within; listed = f .listed }
+    where
+      within : Sub x (bitOr s r)
+      within u =
+          by-bit x u
+          (λ i. by-bit c u (λ m. omega (arith, h .keeps x f u i m, bit-or s r u)) (λ o. omega (arith, f .upper u, bit-or s c u, bit-or s r u)))
+          (λ o. omega arith)
+
   pub kept-trans : {c d r : ℕ} → Kept g ask s c d → Kept g ask s d r → Kept g ask s c r
   kept-trans {c} {d} {r} a b =
-      record { part = sub-trans r d c (b .part) (a .part); keeps = λ x f u e m. b .keeps x (within x f) u e (a .keeps x f u e m) }
-    where
-      within : (x : ℕ) → Found g ask s c x → Found g ask s d x
-      within x f =
-          record {
-            lower = f .lower;
-            upper = sub-of-in x (bitOr s d) (λ u i.
-                by-bit c u (λ m. omega (arith, a .keeps x f u i m, bit-or s d u, bit-le s u))
-                (λ o. omega (arith, i, o, f .upper u, bit-or s c u, bit-or s d u, bit-le s u, bit-le d u)));
-            listed = f .listed;
-          }
+      record { part = sub-trans r d c (b .part) (a .part); keeps = λ x f u e m. b .keeps x (kept-found a f) u e (a .keeps x f u e m) }
 
   -- candidates outside the near row of a member may go
   pub kept-near : (t : List ℕ) (c v : ℕ) → v < length g → In v s → bit c v ≡ 0 → Near g ask t → Kept g ask s c (bitAnd c (row t v))

@@ -5,8 +5,8 @@ ghost use Rattle.sets.specs.Words.{mask, masks};
 ghost use Rattle.judging.specs.Request.{request};
 ghost use Rattle.judging.specs.Plex.{extendable};
 ghost use Rattle.search.specs.Found.{AddsFound};
-ghost use Rattle.lists.specs.Placing.{Adds};
-ghost use Rattle.search.specs.Ready.{Ready, LeafReady, unless};
+ghost use Rattle.lists.specs.Placing.{Adds, unless};
+ghost use Rattle.search.specs.Ready.{Ready, LeafReady};
 use sets::Set;
 
 // Places the plex a, unless a vertex can be added to it.

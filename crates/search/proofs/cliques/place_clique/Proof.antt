@@ -1,13 +1,13 @@
 -- Too small a clique adds nothing, any other itself.
 use Prim.Native.Nat.{_^_}
 use borrow.Author.Tests.{lt-ltb, le-ltb}
-use Rattle.search.specs.Ready.{unless-none, unless-one}
+use Rattle.lists.specs.PlacingLaws.{unless-none, unless-more}
 use borrow.Author.Needs.{needs}
 use Rattle.search.proofs.cliques.place_clique.Statement.{statement}
 use Rattle.search.proofs.cliques.place_clique.Tie as tie
 
 returns : tie.Need-returns
-returns c = unless-none _ _ _ _ _ (lt-ltb _ _ (c .if1 .taken))
+returns c = unless-none _ (lt-ltb _ _ (c .if1 .taken))
 
 push-requires : tie.Need-push-requires
 push-requires c κs = search needs
@@ -19,7 +19,7 @@ returns-2 : tie.Need-returns-2
 returns-2 c =
     let large = c .before .before .before .before in
     let start = large .before .before in
-    unless-one _ _ _ _ _ _ _ (le-ltb _ _ (large .if1 .left)) (c .before .before .push .ensures (2 ^ start .args .n) (start .pre))
+    unless-more _ (le-ltb _ _ (large .if1 .left)) (c .before .before .push .ensures (2 ^ start .args .n) (start .pre))
 
 pub place-clique-spec : {M : Type 1} → statement M
 place-clique-spec = tie.close (tie.spec returns push-requires same-length returns-2)
