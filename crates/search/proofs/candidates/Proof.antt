@@ -7,17 +7,8 @@ use borrow.Author.Needs.{needs}
 use Rattle.search.proofs.candidates.Statement.{statement}
 use Rattle.search.proofs.candidates.Tie as tie
 
-sub-core : tie.Need-sub-core
-sub-core c = search needs
-
-core-requires : tie.Need-core-requires
-core-requires c κs = search needs
-
 returns : tie.Need-returns
 returns c = core-candidates (c .core .ensures)
-
-count-requires : tie.Need-count-requires
-count-requires c κs = search needs
 
 full-requires : tie.Need-full-requires
 full-requires c κs =
@@ -29,4 +20,4 @@ returns-2 c = all-candidates (c .full .ensures ∙ ap full (c .before .count .en
 
 pub candidates-spec : {M : Type 1} → statement M
 candidates-spec =
-    tie.close (tie.spec sub-core core-requires returns count-requires full-requires returns-2)
+    tie.close (tie.spec (λ c. search needs) (λ c. search needs) returns (λ c. search needs) full-requires returns-2)

@@ -4,19 +4,10 @@ use Rattle.search.specs.StartLaws.{whole-startable, start-adds}
 use Rattle.search.proofs.enumerate.Statement.{statement}
 use Rattle.search.proofs.enumerate.Tie as tie
 
-candidates-requires : tie.Need-candidates-requires
-candidates-requires c κs = search needs
-
-empty-requires : tie.Need-empty-requires
-empty-requires c κs = search needs
-
 enumerate-from-requires : tie.Need-enumerate-from-requires
 enumerate-from-requires c κs =
     let start = c .before .before .before .before .before in
     whole-startable (c .before .empty .ensures) (c .before .before .candidates .ensures) (start .pre)
-
-same-length : tie.Need-same-length
-same-length c = search needs
 
 returns : tie.Need-returns
 returns c =
@@ -24,4 +15,4 @@ returns c =
     start-adds (empty .empty .ensures) (empty .before .candidates .ensures) (c .before .before .enumerate-from .ensures)
 
 pub enumerate-spec : {M : Type 1} → statement M
-enumerate-spec = tie.close (tie.spec candidates-requires empty-requires enumerate-from-requires same-length returns)
+enumerate-spec = tie.close (tie.spec (λ c. search needs) (λ c. search needs) enumerate-from-requires (λ c. search needs) returns)

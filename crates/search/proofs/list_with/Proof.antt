@@ -48,31 +48,13 @@ end-fits c = offset-fits (found (ended c)) (c .offset .result) (filled (ended c)
 
 -- ---- the needs
 
-check-request-requires : tie.Need-check-request-requires
-check-request-requires c κs = search needs
-
-enum-known-checked : tie.Need-enum-known-checked
-enum-known-checked c = search needs
-
 returns : tie.Need-returns
 returns c =
     let failed = c .before .checked .given in
     list-refused _ _ (failed .0 .0) _ (sym (c .before .before .before .check-request .ensures) ∙ ap checkedReply (failed .1))
 
-enum-told : tie.Need-enum-told
-enum-told c = search needs
-
 enumerate-requires : tie.Need-enumerate-requires
 enumerate-requires c κs = accepted-holds _ _ (none-holds _ _ (c .before .before .before .check-request .ensures) (c .before .enum-told .given .1))
-
-count-requires : tie.Need-count-requires
-count-requires c κs = search needs
-
-clear-requires : tie.Need-clear-requires
-clear-requires c κs = search needs
-
-same-length : tie.Need-same-length
-same-length c = search needs
 
 returns-2 : tie.Need-returns-2
 returns-2 c =
@@ -90,9 +72,6 @@ slice-relend-prefix-sort c = end-fits c
 
 slice-aggregate-sort : tie.Need-slice-aggregate-sort
 slice-aggregate-sort c = sym (length-take-le _ _ (end-fits (c .before)))
-
-sort-requires : tie.Need-sort-requires
-sort-requires c κs = search needs
 
 same-length-2 : tie.Need-same-length-2
 same-length-2 c =
@@ -119,5 +98,6 @@ returns-3 c =
 pub list-with-spec : {M : Type 1} → statement M
 list-with-spec =
     tie.close
-    (tie.spec check-request-requires enum-known-checked returns enum-told enumerate-requires count-requires clear-requires same-length
-    returns-2 offset-requires slice-relend-prefix-sort slice-aggregate-sort sort-requires same-length-2 returns-3)
+    (tie.spec (λ c. search needs) (λ c. search needs) returns (λ c. search needs) enumerate-requires (λ c. search needs) (λ c. search needs)
+    (λ c. search needs)
+    returns-2 offset-requires slice-relend-prefix-sort slice-aggregate-sort (λ c. search needs) same-length-2 returns-3)

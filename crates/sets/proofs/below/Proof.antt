@@ -4,16 +4,10 @@ use borrow.Author.Needs.{needs}
 use Rattle.sets.proofs.below.Statement.{statement}
 use Rattle.sets.proofs.below.Tie as tie
 
-full-requires : tie.Need-full-requires
-full-requires c κs = search needs
-
-precedes-requires : tie.Need-precedes-requires
-precedes-requires c κs = search needs
-
 returns : tie.Need-returns
 returns c =
     below-mask (c .before .before .args .s) (c .before .full .result) (c .before .before .args .n) (c .precedes .result)
     (c .before .full .ensures) (c .precedes .ensures)
 
 pub below-spec : {M : Type 1} → statement M
-below-spec = tie.close (tie.spec full-requires precedes-requires returns)
+below-spec = tie.close (tie.spec (λ c. search needs) (λ c. search needs) returns)

@@ -7,9 +7,6 @@ use borrow.Author.Needs.{needs}
 use Rattle.sets.proofs.earlier.Statement.{statement}
 use Rattle.sets.proofs.earlier.Tie as tie
 
-precedes-requires : tie.Need-precedes-requires
-precedes-requires c κs = search needs
-
 returns : tie.Need-returns
 returns c =
     let start = c .before .before .args in
@@ -21,4 +18,4 @@ returns-2 c =
     omega (arith, ltb-false (mask (start .s)) (mask (start .t)) (sym (c .before .precedes .ensures) ∙ c .if1 .left))
 
 pub earlier-spec : {M : Type 1} → statement M
-earlier-spec = tie.close (tie.spec precedes-requires returns returns-2)
+earlier-spec = tie.close (tie.spec (λ c. search needs) returns returns-2)

@@ -13,9 +13,6 @@ use Rattle.sets.proofs.get.Tie as tie
 inside : (c : tie.Start) → c .args .i * perSet < length (now (c .args .words))
 inside c = omega (arith, count-masks (now (c .args .words)), c .pre)
 
-mul-word : tie.Need-mul-word
-mul-word c = search needs
-
 mul-word-2 : tie.Need-mul-word-2
 mul-word-2 c = scaled-fits (c .args .i * perSet) (length (now (c .args .words))) 8 (inside c) (search needs)
 
@@ -26,4 +23,4 @@ returns : tie.Need-returns
 returns c = get-mask (now (c .before .args .words)) (c .before .args .i) (c .before .pre)
 
 pub get-spec : {M : Type 1} → statement M
-get-spec = tie.close (tie.spec mul-word mul-word-2 shared-slice-read-word returns)
+get-spec = tie.close (tie.spec (λ c. search needs) mul-word-2 shared-slice-read-word returns)

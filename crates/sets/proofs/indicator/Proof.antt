@@ -5,11 +5,8 @@ use borrow.Author.Needs.{needs}
 use Rattle.sets.proofs.indicator.Statement.{statement}
 use Rattle.sets.proofs.indicator.Tie as tie
 
-shr-result : tie.Need-shr-result
-shr-result c = search needs
-
 returns : tie.Need-returns
 returns c = indicator-mask (c .before .args .s) (c .before .args .v) (omega arith, tt) (c .before .pre)
 
 pub indicator-spec : {M : Type 1} → statement M
-indicator-spec = tie.close (tie.spec shr-result returns)
+indicator-spec = tie.close (tie.spec (λ c. search needs) returns)

@@ -7,9 +7,6 @@ use borrow.Author.Needs.{needs}
 use Rattle.sets.proofs.later.Statement.{statement}
 use Rattle.sets.proofs.later.Tie as tie
 
-precedes-requires : tie.Need-precedes-requires
-precedes-requires c κs = search needs
-
 returns : tie.Need-returns
 returns c =
     let start = c .before .before .args in
@@ -21,4 +18,4 @@ returns-2 c =
     omega (arith, ltb-false (mask (start .s)) (mask (start .t)) (sym (c .before .precedes .ensures) ∙ c .if1 .left))
 
 pub later-spec : {M : Type 1} → statement M
-later-spec = tie.close (tie.spec precedes-requires returns returns-2)
+later-spec = tie.close (tie.spec (λ c. search needs) returns returns-2)

@@ -13,20 +13,14 @@ use Rattle.sets.proofs.put.Tie as tie
 inside : (c : tie.Start) → c .args .i * perSet < length (now (c .args .words))
 inside c = omega (arith, count-masks (now (c .args .words)), c .pre)
 
-mul-words : tie.Need-mul-words
-mul-words c = search needs
-
 mul-words-2 : tie.Need-mul-words-2
 mul-words-2 c = scaled-fits (c .args .i * perSet) (length (now (c .args .words))) 8 (inside c) (search needs)
 
 slice-write-words : tie.Need-slice-write-words
 slice-write-words c = inside c
 
-same-length : tie.Need-same-length
-same-length c = search needs
-
 returns : tie.Need-returns
 returns c = put-masks (now (c .args .words)) (c .args .i) (c .args .s) (c .pre)
 
 pub put-spec : {M : Type 1} → statement M
-put-spec = tie.close (tie.spec mul-words mul-words-2 slice-write-words same-length returns)
+put-spec = tie.close (tie.spec (λ c. search needs) mul-words-2 slice-write-words (λ c. search needs) returns)

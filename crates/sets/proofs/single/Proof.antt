@@ -4,11 +4,8 @@ use borrow.Author.Needs.{needs}
 use Rattle.sets.proofs.single.Statement.{statement}
 use Rattle.sets.proofs.single.Tie as tie
 
-shl-word : tie.Need-shl-word
-shl-word c = search needs
-
 returns : tie.Need-returns
 returns c = single-mask (c .args .v) (c .pre)
 
 pub single-spec : {M : Type 1} → statement M
-single-spec = tie.close (tie.spec shl-word returns)
+single-spec = tie.close (tie.spec (λ c. search needs) returns)

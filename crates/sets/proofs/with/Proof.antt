@@ -7,15 +7,9 @@ use borrow.Author.Needs.{needs}
 use Rattle.sets.proofs.with.Statement.{statement}
 use Rattle.sets.proofs.with.Tie as tie
 
-single-requires : tie.Need-single-requires
-single-requires c κs = search needs
-
-join-requires : tie.Need-join-requires
-join-requires c κs = search needs
-
 returns : tie.Need-returns
 unfolding with
 returns c = c .join .ensures ∙ ap (bitOr (mask (c .before .before .args .s))) (c .before .single .ensures)
 
 pub with-spec : {M : Type 1} → statement M
-with-spec = tie.close (tie.spec single-requires join-requires returns)
+with-spec = tie.close (tie.spec (λ c. search needs) (λ c. search needs) returns)

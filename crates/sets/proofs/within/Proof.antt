@@ -8,15 +8,9 @@ use borrow.Author.Needs.{needs}
 use Rattle.sets.proofs.within.Statement.{statement}
 use Rattle.sets.proofs.within.Tie as tie
 
-meet-requires : tie.Need-meet-requires
-meet-requires c κs = search needs
-
-same-requires : tie.Need-same-requires
-same-requires c κs = search needs
-
 returns : tie.Need-returns
 unfolding subset
 returns c = c .same .ensures ∙ ap (λ (x : ℕ). eqb x (mask (c .before .before .args .s))) (c .before .meet .ensures)
 
 pub within-spec : {M : Type 1} → statement M
-within-spec = tie.close (tie.spec meet-requires same-requires returns)
+within-spec = tie.close (tie.spec (λ c. search needs) (λ c. search needs) returns)

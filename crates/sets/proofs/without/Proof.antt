@@ -6,14 +6,8 @@ use borrow.Author.Needs.{needs}
 use Rattle.sets.proofs.without.Statement.{statement}
 use Rattle.sets.proofs.without.Tie as tie
 
-single-requires : tie.Need-single-requires
-single-requires c κs = search needs
-
-minus-requires : tie.Need-minus-requires
-minus-requires c κs = search needs
-
 returns : tie.Need-returns
 returns c = c .minus .ensures ∙ ap (minus (mask (c .before .before .args .s))) (c .before .single .ensures)
 
 pub without-spec : {M : Type 1} → statement M
-without-spec = tie.close (tie.spec single-requires minus-requires returns)
+without-spec = tie.close (tie.spec (λ c. search needs) (λ c. search needs) returns)

@@ -8,19 +8,10 @@ use borrow.Author.Needs.{needs}
 use Rattle.sets.proofs.without_if.Statement.{statement}
 use Rattle.sets.proofs.without_if.Tie as tie
 
-cast-word : tie.Need-cast-word
-cast-word c = search needs
-
-shl-word : tie.Need-shl-word
-shl-word c = search needs
-
-minus-requires : tie.Need-minus-requires
-minus-requires c κs = search needs
-
 returns : tie.Need-returns
 returns c =
     c .minus .ensures ∙ ap (minus (mask (c .before .args .s))) (single-if-mask (c .before .args .v) (c .before .args .b) (c .before .pre))
     ∙ without-if-mask (mask (c .before .args .s)) (c .before .args .v) (c .before .args .b)
 
 pub without-if-spec : {M : Type 1} → statement M
-without-if-spec = tie.close (tie.spec cast-word shl-word minus-requires returns)
+without-if-spec = tie.close (tie.spec (λ c. search needs) (λ c. search needs) (λ c. search needs) returns)

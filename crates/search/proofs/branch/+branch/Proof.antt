@@ -129,9 +129,6 @@ module _ (t : ℕ) where
 
   -- ---- the needs
 
-  join-requires : branch-lts.Need-join-requires (calls t) (branch-at t) branch.Post
-  join-requires c κs = tt
-
   is-short-requires : branch-lts.Need-is-short-requires (calls t) (branch-at t) branch.Post
   is-short-requires c κs = whole-between (whole c)
 
@@ -148,9 +145,6 @@ module _ (t : ℕ) where
         below = whole-inside (whole (joined seen)) .below;
         unblocking = seen .survey .ensures .opened;
       }
-
-  same-length : branch-lts.Need-same-length (calls t) (branch-at t) branch.Post
-  same-length c = search needs
 
   returns-2 : branch-lts.Need-returns-2 (calls t) (branch-at t) branch.Post
   returns-2 c =
@@ -178,9 +172,6 @@ module _ (t : ℕ) where
         vertex = in-below _ _ _ (inside .below) (seen .survey .ensures .reached (omega (arith, many .if2 .left)) .0);
         most = inside .most;
       }
-
-  is-empty-requires : branch-lts.Need-is-empty-requires (calls t) (branch-at t) branch.Post
-  is-empty-requires c κs = tt
 
   returns-4 : branch-lts.Need-returns-4 (calls t) (branch-at t) branch.Post
   returns-4 c =
@@ -218,9 +209,6 @@ module _ (t : ℕ) where
   is-bounded-requires : branch-lts.Need-is-bounded-requires (calls t) (branch-at t) branch.Post
   is-bounded-requires c κs = with-boundable (split (c .before .before .before .before))
 
-  same-length-2 : branch-lts.Need-same-length-2 (calls t) (branch-at t) branch.Post
-  same-length-2 c = search needs
-
   returns-5 : branch-lts.Need-returns-5 (calls t) (branch-at t) branch.Post
   returns-5 c =
       let others = c .before .before .before .before in
@@ -231,18 +219,12 @@ module _ (t : ℕ) where
       let h = split (c .before .before .before .before .before .before) in
       omega (arith, split-vertex h, h .ready .settled .sized .most)
 
-  fewer-requires : branch-lts.Need-fewer-requires (calls t) (branch-at t) branch.Post
-  fewer-requires c κs = tt
-
   branch-requires-2 : branch-lts.Need-branch-requires-2 (calls t) (branch-at t) branch.Post
   branch-requires-2 c κs =
       let with = c .before .before in
       let sifted = with .before .before .before .before .before .before .before in
       let h = split sifted in
       (omega (arith, with-falls h, entry (picked sifted) .pre .0), with-ready h (with .with .ensures))
-
-  same-length-3 : branch-lts.Need-same-length-3 (calls t) (branch-at t) branch.Post
-  same-length-3 c = search needs
 
   returns-6 : branch-lts.Need-returns-6 (calls t) (branch-at t) branch.Post
   returns-6 c =
@@ -253,7 +235,7 @@ module _ (t : ℕ) where
 pub +branch-spec : {M : Type 1} → statement M
 +branch-spec =
     close μ-branch (λ t. branch-lts.spec (calls t) (branch-at t) branch.Post
-    (join-requires t) (is-short-requires t) (returns t) (survey-requires t) (leaf-requires t) (same-length t) (returns-2 t)
-    (is-extendable-requires t) (returns-3 t) (among-requires t) (is-empty-requires t) (returns-4 t) (pick-requires t) (without-requires t)
-    (beside-requires t) (sift-requires t) (branch-requires t) (is-bounded-requires t) (same-length-2 t) (returns-5 t) (with-requires t)
-    (fewer-requires t) (branch-requires-2 t) (same-length-3 t) (returns-6 t))
+    (λ c κs. tt) (is-short-requires t) (returns t) (survey-requires t) (leaf-requires t) (λ c. search needs) (returns-2 t)
+    (is-extendable-requires t) (returns-3 t) (among-requires t) (λ c κs. tt) (returns-4 t) (pick-requires t) (without-requires t)
+    (beside-requires t) (sift-requires t) (branch-requires t) (is-bounded-requires t) (λ c. search needs) (returns-5 t) (with-requires t)
+    (λ c κs. tt) (branch-requires-2 t) (λ c. search needs) (returns-6 t))

@@ -11,12 +11,6 @@ is-extendable-requires c κs = c .before .before .pre .unblocking
 returns : tie.Need-returns
 returns c = unless-none _ (sym (c .before .is-extendable .ensures) ∙ c .if1 .taken)
 
-push-requires : tie.Need-push-requires
-push-requires c κs = search needs
-
-same-length : tie.Need-same-length
-same-length c = search needs
-
 returns-2 : tie.Need-returns-2
 returns-2 c =
     let tested = c .before .before .before .before .before in
@@ -25,4 +19,4 @@ returns-2 c =
 
 pub leaf-spec : {M : Type 1} → statement M
 leaf-spec =
-    tie.close (tie.spec is-extendable-requires returns push-requires same-length returns-2)
+    tie.close (tie.spec is-extendable-requires returns (λ c. search needs) (λ c. search needs) returns-2)

@@ -6,20 +6,8 @@ use borrow.Author.Needs.{needs}
 use Rattle.search.proofs.choice.among.Statement.{statement}
 use Rattle.search.proofs.choice.among.Tie as tie
 
-has-requires : tie.Need-has-requires
-has-requires c κs = search needs
-
-single-requires : tie.Need-single-requires
-single-requires c κs = search needs
-
 returns : tie.Need-returns
 returns c = among-itself (c .single .ensures) (sym (c .before .before .has .ensures) ∙ c .before .if1 .taken)
-
-get-requires : tie.Need-get-requires
-get-requires c κs = search needs
-
-minus-requires : tie.Need-minus-requires
-minus-requires c κs = search needs
 
 returns-2 : tie.Need-returns-2
 returns-2 c =
@@ -28,4 +16,4 @@ returns-2 c =
 
 pub among-spec : {M : Type 1} → statement M
 among-spec =
-    tie.close (tie.spec has-requires single-requires returns get-requires minus-requires returns-2)
+    tie.close (tie.spec (λ c. search needs) (λ c. search needs) returns (λ c. search needs) (λ c. search needs) returns-2)

@@ -27,9 +27,6 @@ lowest-requires c κs = c .before .pre .some
 loop-holds : tie.Need-loop-holds Inv-loop μ-loop
 loop-holds c = record { member = c .lowest .ensures .member; part = sub-refl _ }
 
-is-empty-requires : tie.Need-is-empty-requires Inv-loop μ-loop
-is-empty-requires c κs = tt
-
 lowest-requires-2 : tie.Need-lowest-requires-2 Inv-loop μ-loop
 lowest-requires-2 c κs = walk-goes-on (c .before .is-empty .ensures) (c .if1 .taken)
 
@@ -63,5 +60,5 @@ returns c = c .before .before .loop .inv .member
 pub pick-spec : {M : Type 1} → statement M
 pick-spec =
     tie.close
-    (tie.spec Inv-loop μ-loop lowest-requires loop-holds is-empty-requires lowest-requires-2 rest-requires missing-requires loop-less loop-again
+    (tie.spec Inv-loop μ-loop lowest-requires loop-holds (λ c κs. tt) lowest-requires-2 rest-requires missing-requires loop-less loop-again
     loop-less-2 loop-again-2 returns)

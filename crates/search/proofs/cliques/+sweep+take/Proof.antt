@@ -152,9 +152,6 @@ module _ (t : ℕ) where
   sweep-loop-holds : sweep-lts.Need-loop-holds (sweep-calls t) (sweep-at t) sweep.Post Inv-loop μ-loop
   sweep-loop-holds c = (swept-none (c .before .before .pre .1) _ _, refl)
 
-  sweep-is-empty-requires : sweep-lts.Need-is-empty-requires (sweep-calls t) (sweep-at t) sweep.Post Inv-loop μ-loop
-  sweep-is-empty-requires c κs = tt
-
   sweep-lowest-requires : sweep-lts.Need-lowest-requires (sweep-calls t) (sweep-at t) sweep.Post Inv-loop μ-loop
   sweep-lowest-requires c κs = walk-goes-on (c .before .is-empty .ensures) (c .if1 .taken)
 
@@ -165,12 +162,6 @@ module _ (t : ℕ) where
   sweep-with-requires c κs =
       let turn = c .before .before .before .before in
       omega (arith, vertex (c .before), entry turn .pre .1 .taking .most)
-
-  sweep-meet-requires : sweep-lts.Need-meet-requires (sweep-calls t) (sweep-at t) sweep.Post Inv-loop μ-loop
-  sweep-meet-requires c κs = tt
-
-  sweep-meet-requires-2 : sweep-lts.Need-meet-requires-2 (sweep-calls t) (sweep-at t) sweep.Post Inv-loop μ-loop
-  sweep-meet-requires-2 c κs = tt
 
   sweep-rest-requires : sweep-lts.Need-rest-requires (sweep-calls t) (sweep-at t) sweep.Post Inv-loop μ-loop
   sweep-rest-requires c κs = c .before .before .before .before .lowest .ensures
@@ -231,16 +222,10 @@ module _ (t : ℕ) where
       two-left (first .before .lowest .ensures) (first .rest .ensures) (second .before .lowest2 .ensures) (second .rest2 .ensures)
       (empty-holds (c .before .is-empty3 .ensures) (c .if4 .taken))
 
-  take-is-empty-requires : take-lts.Need-is-empty-requires (take-calls t) (take-at t) take.Post
-  take-is-empty-requires c κs = tt
-
   take-end-requires : take-lts.Need-end-requires (take-calls t) (take-at t) take.Post
   take-end-requires c κs =
       let none = c .before in
       take-same (start (none .before) .pre .1) (empty-holds (none .before .is-empty .ensures) (none .if1 .taken))
-
-  take-same-length : take-lts.Need-same-length (take-calls t) (take-at t) take.Post
-  take-same-length c = search needs
 
   take-returns : take-lts.Need-returns (take-calls t) (take-at t) take.Post
   take-returns c =
@@ -259,14 +244,8 @@ module _ (t : ℕ) where
   take-rest-requires : take-lts.Need-rest-requires (take-calls t) (take-at t) take.Post
   take-rest-requires c κs = c .lowest .ensures
 
-  take-is-empty-requires-2 : take-lts.Need-is-empty-requires-2 (take-calls t) (take-at t) take.Post
-  take-is-empty-requires-2 c κs = tt
-
   take-end-with-requires : take-lts.Need-end-with-requires (take-calls t) (take-at t) take.Post
   take-end-with-requires c κs = take-same (start (tested (c .before .before)) .pre .1) (one (c .before))
-
-  take-same-length-2 : take-lts.Need-same-length-2 (take-calls t) (take-at t) take.Post
-  take-same-length-2 c = search needs
 
   take-returns-3 : take-lts.Need-returns-3 (take-calls t) (take-at t) take.Post
   take-returns-3 c =
@@ -279,22 +258,13 @@ module _ (t : ℕ) where
   take-rest-requires-2 : take-lts.Need-rest-requires-2 (take-calls t) (take-at t) take.Post
   take-rest-requires-2 c κs = c .lowest2 .ensures
 
-  take-is-empty-requires-3 : take-lts.Need-is-empty-requires-3 (take-calls t) (take-at t) take.Post
-  take-is-empty-requires-3 c κs = tt
-
   take-end-pair-requires : take-lts.Need-end-pair-requires (take-calls t) (take-at t) take.Post
   take-end-pair-requires c κs = (take-same (start (tested (tested2 (c .before .before))) .pre .1) (two (c .before) .0), two (c .before) .1)
-
-  take-same-length-3 : take-lts.Need-same-length-3 (take-calls t) (take-at t) take.Post
-  take-same-length-3 c = search needs
 
   take-returns-4 : take-lts.Need-returns-4 (take-calls t) (take-at t) take.Post
   take-returns-4 c =
       let last = c .before .before .before .before in
       take-adds (start (tested (tested2 (last .before))) .pre .1) (two last .0) (c .before .before .end-pair .ensures)
-
-  take-is-far-requires : take-lts.Need-is-far-requires (take-calls t) (take-at t) take.Post
-  take-is-far-requires c κs = tt
 
   -- more than two are left
   abbrev many : take-lts.After-is-far (take-calls t) (take-at t) take.Post → take-lts.After-is-empty (take-calls t) (take-at t) take.Post
@@ -305,9 +275,6 @@ module _ (t : ℕ) where
       let some = tested2 (c .before .before) .before .before .before .before .before in
       take-pickable (start (many c) .pre .1) (empty-fails (some .before .is-empty .ensures) (some .if1 .left))
 
-  take-minus-requires : take-lts.Need-minus-requires (take-calls t) (take-at t) take.Post
-  take-minus-requires c κs = tt
-
   take-sweep-requires : take-lts.Need-sweep-requires (take-calls t) (take-at t) take.Post
   take-sweep-requires c κs =
       let at = c .before in
@@ -315,9 +282,6 @@ module _ (t : ℕ) where
         omega (arith, cover-candidates (at-start .pre .1) (at .before .agenda .ensures) (at .minus .ensures), at-start .pre .0),
         cover-sweeping (at-start .pre .1) (at .before .agenda .ensures) (at .minus .ensures),
       )
-
-  take-same-length-4 : take-lts.Need-same-length-4 (take-calls t) (take-at t) take.Post
-  take-same-length-4 c = search needs
 
   take-returns-5 : take-lts.Need-returns-5 (take-calls t) (take-at t) take.Post
   take-returns-5 c =
@@ -328,12 +292,11 @@ pub +sweep+take-spec : {M : Type 1} → statement M
 +sweep+take-spec =
     close μ-sweep μ-take
     (λ t. sweep-lts.spec (sweep-calls t) (sweep-at t) sweep.Post Inv-loop μ-loop
-    (sweep-add-more t) (sweep-loop-holds t) (sweep-is-empty-requires t) (sweep-lowest-requires t) (sweep-get-requires t) (sweep-with-requires t)
-    (sweep-meet-requires t) (sweep-meet-requires-2 t) (sweep-rest-requires t) (sweep-with-requires-2 t) (sweep-take-requires t) (sweep-loop-less t)
+    (sweep-add-more t) (sweep-loop-holds t) (λ c κs. tt) (sweep-lowest-requires t) (sweep-get-requires t) (sweep-with-requires t)
+    (λ c κs. tt) (λ c κs. tt) (sweep-rest-requires t) (sweep-with-requires-2 t) (sweep-take-requires t) (sweep-loop-less t)
     (sweep-loop-again t) (sweep-same-length t) (sweep-returns t))
     (λ t. take-lts.spec (take-calls t) (take-at t) take.Post
-    (take-is-empty-requires t) (take-end-requires t) (take-same-length t) (take-returns t) (take-is-few-requires t) (take-returns-2 t)
-    (take-lowest-requires t) (take-rest-requires t) (take-is-empty-requires-2 t) (take-end-with-requires t) (take-same-length-2 t) (take-returns-3 t)
-    (take-lowest-requires-2 t) (take-rest-requires-2 t) (take-is-empty-requires-3 t) (take-end-pair-requires t) (take-same-length-3 t)
-    (take-returns-4 t) (take-is-far-requires t) (take-agenda-requires t) (take-minus-requires t) (take-sweep-requires t) (take-same-length-4 t)
-    (take-returns-5 t))
+    (λ c κs. tt) (take-end-requires t) (λ c. search needs) (take-returns t) (take-is-few-requires t) (take-returns-2 t)
+    (take-lowest-requires t) (take-rest-requires t) (λ c κs. tt) (take-end-with-requires t) (λ c. search needs) (take-returns-3 t)
+    (take-lowest-requires-2 t) (take-rest-requires-2 t) (λ c κs. tt) (take-end-pair-requires t) (λ c. search needs)
+    (take-returns-4 t) (λ c κs. tt) (take-agenda-requires t) (λ c κs. tt) (take-sweep-requires t) (λ c. search needs) (take-returns-5 t))

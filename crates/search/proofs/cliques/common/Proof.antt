@@ -20,29 +20,17 @@ abbrev μ-loop : tie.MeasureT-loop
 abbrev turn : tie.After-rest Inv-loop μ-loop → tie.At-loop Inv-loop μ-loop
 turn c = c .before .before .before .before
 
-count-requires : tie.Need-count-requires Inv-loop μ-loop
-count-requires c κs = search needs
-
 full-requires : tie.Need-full-requires Inv-loop μ-loop
 full-requires c κs = let held = c .before .before .pre in (omega (arith, c .count .ensures, held .some), omega (arith, c .count .ensures, held .most))
 
 loop-holds : tie.Need-loop-holds Inv-loop μ-loop
 loop-holds c = sharing-none (c .full .ensures ∙ ap full (c .before .count .ensures))
 
-is-empty-requires : tie.Need-is-empty-requires Inv-loop μ-loop
-is-empty-requires c κs = search needs
-
 lowest-requires : tie.Need-lowest-requires Inv-loop μ-loop
 lowest-requires c κs = walk-goes-on (c .before .is-empty .ensures) (c .if1 .taken)
 
-rest-requires : tie.Need-rest-requires Inv-loop μ-loop
-rest-requires c κs = search needs
-
 get-requires : tie.Need-get-requires Inv-loop μ-loop
 get-requires c κs = walk-below _ _ _ _ (turn c .before .before .before .before .pre .below) (turn c .loop .inv .beside .part) (c .before .lowest .ensures)
-
-meet-requires : tie.Need-meet-requires Inv-loop μ-loop
-meet-requires c κs = search needs
 
 loop-less : tie.Need-loop-less Inv-loop μ-loop
 loop-less c = let passed = c .before .before in walk-falls (passed .before .lowest .ensures) (passed .rest .ensures)
@@ -58,5 +46,6 @@ returns c = sharing-all (c .before .before .loop .inv) (walk-over (c .before .is
 pub common-spec : {M : Type 1} → statement M
 common-spec =
     tie.close
-    (tie.spec Inv-loop μ-loop count-requires full-requires loop-holds is-empty-requires lowest-requires rest-requires get-requires meet-requires
+    (tie.spec Inv-loop μ-loop (λ c. search needs) full-requires loop-holds (λ c. search needs) lowest-requires (λ c. search needs) get-requires
+    (λ c. search needs)
     loop-less loop-again returns)

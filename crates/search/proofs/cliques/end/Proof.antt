@@ -9,19 +9,10 @@ use Rattle.search.proofs.cliques.end.Tie as tie
 abbrev start : tie.After-is-empty → tie.Start
 start c = c .before .before .before
 
-is-empty-requires : tie.Need-is-empty-requires
-is-empty-requires c κs = tt
-
-count-requires : tie.Need-count-requires
-count-requires c κs = tt
-
 place-clique-requires : tie.Need-place-clique-requires
 place-clique-requires c κs =
     let none = c .before .before in
     lonely-below (start (none .before) .pre) (empty-holds (none .before .is-empty .ensures) (none .if1 .taken)) (c .before .count .ensures)
-
-same-length : tie.Need-same-length
-same-length c = search needs
 
 returns : tie.Need-returns
 returns c =
@@ -34,4 +25,4 @@ returns-2 : tie.Need-returns-2
 returns-2 c = end-none (start (c .before) .pre) (empty-fails (c .before .is-empty .ensures) (c .if1 .left)) _ _
 
 pub end-spec : {M : Type 1} → statement M
-end-spec = tie.close (tie.spec is-empty-requires count-requires place-clique-requires same-length returns returns-2)
+end-spec = tie.close (tie.spec (λ c κs. tt) (λ c κs. tt) place-clique-requires (λ c. search needs) returns returns-2)

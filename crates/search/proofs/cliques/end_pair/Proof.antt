@@ -46,9 +46,6 @@ add-more c = omega (arith, take-fits (c .before .before .before .pre .0))
 with-requires : tie.Need-with-requires
 with-requires c κs = let held = c .before .before .before .pre in omega (arith, pair-vertices (held .1) (held .0) .0, held .0 .most)
 
-meet-requires : tie.Need-meet-requires
-meet-requires c κs = tt
-
 has-requires : tie.Need-has-requires
 has-requires c κs = let held = c .before .before .before .before .before .pre in omega (arith, pair-vertices (held .1) (held .0) .1, held .0 .most)
 
@@ -56,9 +53,6 @@ end-with-requires : tie.Need-end-with-requires
 end-with-requires c κs =
     let at = c .before .before in
     both-taking (start at .pre .1) (start at .pre .0) (near (c .before)) (first at)
-
-same-length : tie.Need-same-length
-same-length c = search needs
 
 returns : tie.Need-returns
 returns c =
@@ -74,9 +68,6 @@ get-requires-2 : tie.Need-get-requires-2
 get-requires-2 c κs =
     let held = start (c .before .before .before .before .before) .pre in
     pair-vertices (held .1) (held .0) .1
-
-meet-requires-2 : tie.Need-meet-requires-2
-meet-requires-2 c κs = tt
 
 with-requires-2 : tie.Need-with-requires-2
 with-requires-2 c κs =
@@ -95,9 +86,6 @@ end-requires-2 c κs =
     let ended = at .before .before .before .before .before in
     second-taking (start (asked at) .pre .1) (start (asked at) .pre .0) (away (ended .before .before)) (first (asked at)) (ended .end .ensures) (second at)
 
-same-length-2 : tie.Need-same-length-2
-same-length-2 c = search needs
-
 returns-2 : tie.Need-returns-2
 returns-2 c =
     let at = c .before .before .before .before in
@@ -108,5 +96,5 @@ returns-2 c =
 pub end-pair-spec : {M : Type 1} → statement M
 end-pair-spec =
     tie.close
-    (tie.spec get-requires add-more with-requires meet-requires has-requires end-with-requires same-length returns end-requires get-requires-2
-    meet-requires-2 with-requires-2 end-requires-2 same-length-2 returns-2)
+    (tie.spec get-requires add-more with-requires (λ c κs. tt) has-requires end-with-requires (λ c. search needs) returns end-requires get-requires-2
+    (λ c κs. tt) with-requires-2 end-requires-2 (λ c. search needs) returns-2)

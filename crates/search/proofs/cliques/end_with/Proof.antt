@@ -14,9 +14,6 @@ start c = c .before .before .before .before .before
 get-requires : tie.Need-get-requires
 get-requires c κs = one-vertex _ (c .before .before .pre)
 
-meet-requires : tie.Need-meet-requires
-meet-requires c κs = tt
-
 add-end : tie.Need-add-end
 add-end c = omega (arith, take-fits (c .before .before .before .before .pre))
 
@@ -28,13 +25,10 @@ end-requires c κs =
     let at = c .before in
     one-taking (start at .pre) (joined (at .with .ensures) (at .before .before .get .ensures) (at .before .meet .ensures))
 
-same-length : tie.Need-same-length
-same-length c = search needs
-
 returns : tie.Need-returns
 returns c =
     let at = c .before .before .before .before in
     one-adds (start at .pre) (joined (at .with .ensures) (at .before .before .get .ensures) (at .before .meet .ensures)) (c .before .before .end .ensures)
 
 pub end-with-spec : {M : Type 1} → statement M
-end-with-spec = tie.close (tie.spec get-requires meet-requires add-end with-requires end-requires same-length returns)
+end-with-spec = tie.close (tie.spec get-requires (λ c κs. tt) add-end with-requires end-requires (λ c. search needs) returns)

@@ -10,14 +10,8 @@ use Rattle.search.proofs.cliques.is_few.Tie as tie
 returns : tie.Need-returns
 returns c e = absurd (false≢true e)
 
-size-requires : tie.Need-size-requires
-size-requires c κs = search needs
-
-add-result : tie.Need-add-result
-add-result c = search needs
-
 returns-2 : tie.Need-returns-2
 returns-2 c e = omega (arith, ltb-true (c .before .before .args .have + c .size .result) (c .before .before .args .q) e, c .size .ensures .0)
 
 pub is-few-spec : {M : Type 1} → statement M
-is-few-spec = tie.close (tie.spec returns size-requires add-result returns-2)
+is-few-spec = tie.close (tie.spec returns (λ c. search needs) (λ c. search needs) returns-2)

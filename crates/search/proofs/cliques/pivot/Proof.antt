@@ -21,9 +21,6 @@ turn c = c .before .before .before .before
 loop-holds : tie.Need-loop-holds Inv-loop μ-loop
 loop-holds c = pivoting-none (c .before .pre)
 
-is-empty-requires : tie.Need-is-empty-requires Inv-loop μ-loop
-is-empty-requires c κs = tt
-
 lowest-requires : tie.Need-lowest-requires Inv-loop μ-loop
 lowest-requires c κs = walk-goes-on (c .before .is-empty .ensures) (c .if1 .taken)
 
@@ -32,12 +29,6 @@ rest-requires c κs = c .lowest .ensures
 
 get-requires : tie.Need-get-requires Inv-loop μ-loop
 get-requires c κs = walk-below _ _ _ _ (turn c .before .before .pre .below) (turn c .loop .inv .part) (c .before .lowest .ensures)
-
-minus-requires : tie.Need-minus-requires Inv-loop μ-loop
-minus-requires c κs = tt
-
-size-requires : tie.Need-size-requires Inv-loop μ-loop
-size-requires c κs = tt
 
 returns : tie.Need-returns Inv-loop μ-loop
 returns c =
@@ -68,5 +59,5 @@ returns-2 c = c .before .before .loop .inv .cover
 pub pivot-spec : {M : Type 1} → statement M
 pivot-spec =
     tie.close
-    (tie.spec Inv-loop μ-loop loop-holds is-empty-requires lowest-requires rest-requires get-requires minus-requires size-requires returns
+    (tie.spec Inv-loop μ-loop loop-holds (λ c κs. tt) lowest-requires rest-requires get-requires (λ c κs. tt) (λ c κs. tt) returns
     loop-less loop-again loop-less-2 loop-again-2 returns-2)

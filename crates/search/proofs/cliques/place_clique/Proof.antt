@@ -9,12 +9,6 @@ use Rattle.search.proofs.cliques.place_clique.Tie as tie
 returns : tie.Need-returns
 returns c = unless-none _ (lt-ltb _ _ (c .if1 .taken))
 
-push-requires : tie.Need-push-requires
-push-requires c κs = search needs
-
-same-length : tie.Need-same-length
-same-length c = search needs
-
 returns-2 : tie.Need-returns-2
 returns-2 c =
     let large = c .before .before .before .before in
@@ -22,4 +16,4 @@ returns-2 c =
     unless-more _ (le-ltb _ _ (large .if1 .left)) (c .before .before .push .ensures (2 ^ start .args .n) (start .pre))
 
 pub place-clique-spec : {M : Type 1} → statement M
-place-clique-spec = tie.close (tie.spec returns push-requires same-length returns-2)
+place-clique-spec = tie.close (tie.spec returns (λ c. search needs) (λ c. search needs) returns-2)

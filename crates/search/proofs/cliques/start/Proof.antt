@@ -12,16 +12,10 @@ start c = c .before .before .before
 abbrev tested : tie.After-minus → tie.After-is-empty
 tested c = c .before .before .before
 
-is-empty-requires : tie.Need-is-empty-requires
-is-empty-requires c κs = search needs
-
 end-requires : tie.Need-end-requires
 end-requires c κs =
     let none = c .before in
     take-same (start (none .before) .pre) (empty-holds (none .before .is-empty .ensures) (none .if1 .taken))
-
-same-length : tie.Need-same-length
-same-length c = search needs
 
 returns : tie.Need-returns
 returns c =
@@ -31,16 +25,10 @@ returns c =
 agenda-requires : tie.Need-agenda-requires
 agenda-requires c κs = take-pickable (start (c .before) .pre) (empty-fails (c .before .is-empty .ensures) (c .if1 .left))
 
-minus-requires : tie.Need-minus-requires
-minus-requires c κs = search needs
-
 sweep-requires : tie.Need-sweep-requires
 sweep-requires c κs =
     let at = c .before in
     cover-sweeping (start (tested at) .pre) (at .before .agenda .ensures) (at .minus .ensures)
-
-same-length-2 : tie.Need-same-length-2
-same-length-2 c = search needs
 
 returns-2 : tie.Need-returns-2
 returns-2 c =
@@ -50,4 +38,5 @@ returns-2 c =
 pub start-spec : {M : Type 1} → statement M
 start-spec =
     tie.close
-    (tie.spec is-empty-requires end-requires same-length returns agenda-requires minus-requires sweep-requires same-length-2 returns-2)
+    (tie.spec (λ c. search needs) end-requires (λ c. search needs) returns agenda-requires (λ c. search needs) sweep-requires (λ c. search needs)
+    returns-2)

@@ -5,9 +5,6 @@ use borrow.Author.Needs.{needs}
 use Rattle.search.proofs.cut.is_extendable.Statement.{statement}
 use Rattle.search.proofs.cut.is_extendable.Tie as tie
 
-is-extendable-requires : tie.Need-is-extendable-requires
-is-extendable-requires c κs = search needs
-
 returns : tie.Need-returns
 returns c = λ e. true-holds _ (sym (c .is-extendable .ensures) ∙ e)
 
@@ -15,4 +12,4 @@ returns-2 : tie.Need-returns-2
 returns-2 c = λ e. absurd (true-is-not-false (sym e))
 
 pub is-extendable-spec : {M : Type 1} → statement M
-is-extendable-spec = tie.close (tie.spec is-extendable-requires returns returns-2)
+is-extendable-spec = tie.close (tie.spec (λ c. search needs) returns returns-2)

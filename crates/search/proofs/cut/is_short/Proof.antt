@@ -7,17 +7,8 @@ use borrow.Author.Needs.{needs}
 use Rattle.search.proofs.cut.is_short.Statement.{statement}
 use Rattle.search.proofs.cut.is_short.Tie as tie
 
-size-requires : tie.Need-size-requires
-size-requires c κs = search needs
-
 returns : tie.Need-returns
 returns c = (λ _. short-all _ _ _ _ _ _ (c .before .size .ensures .0) (c .if1 .taken), λ e. absurd (true-is-not-false e))
-
-is-asked-requires : tie.Need-is-asked-requires
-is-asked-requires c κs = search needs
-
-falls-short-requires : tie.Need-falls-short-requires
-falls-short-requires c κs = search needs
 
 returns-2 : tie.Need-returns-2
 returns-2 c = (c .falls-short .ensures, λ _. omega (arith, c .before .before .before .if1 .left, c .before .before .before .before .size .ensures .0))
@@ -26,4 +17,4 @@ returns-3 : tie.Need-returns-3
 returns-3 c = (λ e. absurd (true-is-not-false (sym e)), λ _. omega (arith, c .before .before .if1 .left, c .before .before .before .size .ensures .0))
 
 pub is-short-spec : {M : Type 1} → statement M
-is-short-spec = tie.close (tie.spec size-requires returns is-asked-requires falls-short-requires returns-2 returns-3)
+is-short-spec = tie.close (tie.spec (λ c. search needs) returns (λ c. search needs) (λ c. search needs) returns-2 returns-3)

@@ -20,9 +20,6 @@ abbrev μ-loop : tie.MeasureT-loop
 abbrev start : tie.At-loop Inv-loop μ-loop → tie.Start Inv-loop μ-loop
 start c = c .before .before .before .before
 
-count-requires : tie.Need-count-requires Inv-loop μ-loop
-count-requires c κs = tt
-
 loop-holds : tie.Need-loop-holds Inv-loop μ-loop
 loop-holds c = (written-none, refl)
 
@@ -33,12 +30,6 @@ near-row-requires c κs =
 
 put-requires : tie.Need-put-requires Inv-loop μ-loop
 put-requires c κs = omega (arith, c .before .before .before .loop .inv .0 .long)
-
-add-v : tie.Need-add-v Inv-loop μ-loop
-add-v c = omega arith
-
-loop-less : tie.Need-loop-less Inv-loop μ-loop
-loop-less c = omega arith
 
 loop-again : tie.Need-loop-again Inv-loop μ-loop
 loop-again c =
@@ -58,4 +49,5 @@ returns c =
     written-filled _ _ (pre .1) (pre .2) (omega arith) (c .before .loop .inv .0)
 
 pub fill-spec : {M : Type 1} → statement M
-fill-spec = tie.close (tie.spec Inv-loop μ-loop count-requires loop-holds near-row-requires put-requires add-v loop-less loop-again same-length returns)
+fill-spec = tie.close (tie.spec Inv-loop μ-loop (λ c κs. tt) loop-holds near-row-requires put-requires (λ c. omega arith) (λ c. omega arith)
+loop-again same-length returns)

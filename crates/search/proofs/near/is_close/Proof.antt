@@ -15,33 +15,6 @@ read c = c .before .before .before .before .before
 one : (c : tie.After-indicator) → c .indicator .result ≤ 1
 one c = omega (arith, c .indicator .ensures, bit-le (mask (read c .get .result)) (read c .before .before .args .u))
 
-get-requires : tie.Need-get-requires
-get-requires c κs = search needs
-
-get-requires-2 : tie.Need-get-requires-2
-get-requires-2 c κs = search needs
-
-meet-requires : tie.Need-meet-requires
-meet-requires c κs = search needs
-
-meet-requires-2 : tie.Need-meet-requires-2
-meet-requires-2 c κs = search needs
-
-size-requires : tie.Need-size-requires
-size-requires c κs = search needs
-
-add-result : tie.Need-add-result
-add-result c = search needs
-
-mul-result : tie.Need-mul-result
-mul-result c = search needs
-
-add-result-2 : tie.Need-add-result-2
-add-result-2 c = search needs
-
-indicator-requires : tie.Need-indicator-requires
-indicator-requires c κs = search needs
-
 mul-result-2 : tie.Need-mul-result-2
 mul-result-2 c = omega (arith, one c)
 
@@ -57,5 +30,6 @@ returns c =
 pub is-close-spec : {M : Type 1} → statement M
 is-close-spec =
     tie.close
-    (tie.spec get-requires get-requires-2 meet-requires meet-requires-2 size-requires add-result mul-result add-result-2 indicator-requires
+    (tie.spec (λ c. search needs) (λ c. search needs) (λ c. search needs) (λ c. search needs) (λ c. search needs) (λ c. search needs)
+    (λ c. search needs) (λ c. search needs) (λ c. search needs)
     mul-result-2 add-result-3 returns)

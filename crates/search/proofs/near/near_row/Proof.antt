@@ -6,12 +6,6 @@ use Rattle.search.specs.NearRows.{nearRow}
 use Rattle.search.proofs.near.near_row.Statement.{statement}
 use Rattle.search.proofs.near.near_row.Tie as tie
 
-reach-row-requires : tie.Need-reach-row-requires
-reach-row-requires c κs = search needs
-
-meet-requires : tie.Need-meet-requires
-meet-requires c κs = tt
-
 pair-row-requires : tie.Need-pair-row-requires
 pair-row-requires c κs =
     let pre = c .before .before .before .before .pre in
@@ -26,4 +20,4 @@ unfolding nearRow
 returns-2 c = rw (c .if1 .left) (c .before .reach-row .ensures)
 
 pub near-row-spec : {M : Type 1} → statement M
-near-row-spec = tie.close (tie.spec reach-row-requires meet-requires pair-row-requires returns returns-2)
+near-row-spec = tie.close (tie.spec (λ c. search needs) (λ c κs. tt) pair-row-requires returns returns-2)

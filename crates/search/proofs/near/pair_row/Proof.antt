@@ -29,9 +29,6 @@ without-requires c κs = omega (arith, c .before .pre .0 .inside .most, c .befor
 loop-holds : tie.Need-loop-holds Inv-loop μ-loop
 loop-holds c = dropping-none (rw (c .without .ensures) (minus-below _ _ _ (c .before .before .pre .1)))
 
-is-empty-requires : tie.Need-is-empty-requires Inv-loop μ-loop
-is-empty-requires c κs = tt
-
 lowest-requires : tie.Need-lowest-requires Inv-loop μ-loop
 lowest-requires c κs = walk-goes-on (c .before .is-empty .ensures) (c .if1 .taken)
 
@@ -68,5 +65,5 @@ returns c =
 pub pair-row-spec : {M : Type 1} → statement M
 pair-row-spec =
     tie.close
-    (tie.spec Inv-loop μ-loop without-requires loop-holds is-empty-requires lowest-requires rest-requires is-close-requires without-if-requires
+    (tie.spec Inv-loop μ-loop without-requires loop-holds (λ c κs. tt) lowest-requires rest-requires is-close-requires without-if-requires
     loop-less loop-again returns)

@@ -6,22 +6,13 @@ use Rattle.search.specs.NearRows.{reachRow}
 use Rattle.search.proofs.near.reach_row.Statement.{statement}
 use Rattle.search.proofs.near.reach_row.Tie as tie
 
-reach-requires : tie.Need-reach-requires
-reach-requires c κs = search needs
-
 returns : tie.Need-returns
 unfolding reachRow
 returns c = rw (c .before .if1 .taken) (c .reach .ensures)
-
-count-requires : tie.Need-count-requires
-count-requires c κs = search needs
-
-full-requires : tie.Need-full-requires
-full-requires c κs = search needs
 
 returns-2 : tie.Need-returns-2
 unfolding reachRow
 returns-2 c = rw (c .before .before .if1 .left) (c .full .ensures ∙ ap full (c .before .count .ensures))
 
 pub reach-row-spec : {M : Type 1} → statement M
-reach-row-spec = tie.close (tie.spec reach-requires returns count-requires full-requires returns-2)
+reach-row-spec = tie.close (tie.spec (λ c. search needs) returns (λ c. search needs) (λ c. search needs) returns-2)

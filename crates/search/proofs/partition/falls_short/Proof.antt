@@ -29,17 +29,11 @@ more c = c .before
 abbrev chosen : tie.Else3 Inv-loop μ-loop → tie.After-pick Inv-loop μ-loop
 chosen c = c .before .before
 
-size-requires : tie.Need-size-requires Inv-loop μ-loop
-size-requires c κs = tt
-
 returns : tie.Need-returns Inv-loop μ-loop
 returns c e = short-all _ _ _ _ _ _ (c .before .size .ensures .0) (c .if1 .taken)
 
 loop-holds : tie.Need-loop-holds Inv-loop μ-loop
 loop-holds c = bounding-none (c .before .size .ensures .0) (c .if1 .left) (c .before .before .before .pre .part)
-
-is-empty-requires : tie.Need-is-empty-requires Inv-loop μ-loop
-is-empty-requires c κs = tt
 
 pick-requires : tie.Need-pick-requires Inv-loop μ-loop
 pick-requires c κs =
@@ -63,12 +57,6 @@ get-requires c κs =
     let at = turn (chosen over) in
     best-below (at .loop .inv) (chosen over .pick .ensures) (over .if3 .left) (start at .pre)
 
-join-requires : tie.Need-join-requires Inv-loop μ-loop
-join-requires c κs = tt
-
-meet-requires : tie.Need-meet-requires Inv-loop μ-loop
-meet-requires c κs = tt
-
 loop-less : tie.Need-loop-less Inv-loop μ-loop
 loop-less c =
     let over = more (c .before .before .before .before .before) in
@@ -90,5 +78,5 @@ returns-4 c e = absurd (false≢true e)
 pub falls-short-spec : {M : Type 1} → statement M
 falls-short-spec =
     tie.close
-    (tie.spec Inv-loop μ-loop size-requires returns loop-holds is-empty-requires pick-requires returns-2 sub-over returns-3 get-requires join-requires
-    meet-requires loop-less loop-again returns-4)
+    (tie.spec Inv-loop μ-loop (λ c κs. tt) returns loop-holds (λ c κs. tt) pick-requires returns-2 sub-over returns-3 get-requires (λ c κs. tt)
+    (λ c κs. tt) loop-less loop-again returns-4)

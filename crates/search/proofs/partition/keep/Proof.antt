@@ -4,9 +4,6 @@ use Rattle.sets.specs.SubsetLaws.{sub-refl, sub-with}
 use Rattle.search.proofs.partition.keep.Statement.{statement}
 use Rattle.search.proofs.partition.keep.Tie as tie
 
-with-requires : tie.Need-with-requires
-with-requires c κs = search needs
-
 returns : tie.Need-returns
 returns c = rw (c .with .ensures) (sub-refl _)
 
@@ -14,4 +11,4 @@ returns-2 : tie.Need-returns-2
 returns-2 c = sub-with _ _
 
 pub keep-spec : {M : Type 1} → statement M
-keep-spec = tie.close (tie.spec with-requires returns returns-2)
+keep-spec = tie.close (tie.spec (λ c. search needs) returns returns-2)

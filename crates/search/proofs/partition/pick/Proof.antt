@@ -21,14 +21,8 @@ turn c = c .before .before .before
 falls : (c : tie.After-rest Inv-loop μ-loop) → mask (c .rest .result) < mask (turn (c .before) .loop .todo)
 falls c = walk-falls (c .before .lowest .ensures) (c .rest .ensures)
 
-empty-requires : tie.Need-empty-requires Inv-loop μ-loop
-empty-requires c κs = tt
-
 loop-holds : tie.Need-loop-holds Inv-loop μ-loop
 loop-holds c = picking-none (c .empty .ensures)
-
-is-empty-requires : tie.Need-is-empty-requires Inv-loop μ-loop
-is-empty-requires c κs = tt
 
 lowest-requires : tie.Need-lowest-requires Inv-loop μ-loop
 lowest-requires c κs = walk-goes-on (c .before .is-empty .ensures) (c .if1 .taken)
@@ -71,5 +65,5 @@ returns c = picking-all (c .before .before .before .loop .inv) (c .without .ensu
 pub pick-spec : {M : Type 1} → statement M
 pick-spec =
     tie.close
-    (tie.spec Inv-loop μ-loop empty-requires loop-holds is-empty-requires lowest-requires rest-requires missing-requires keep-requires loop-less
+    (tie.spec Inv-loop μ-loop (λ c κs. tt) loop-holds (λ c κs. tt) lowest-requires rest-requires missing-requires keep-requires loop-less
     loop-again loop-less-2 loop-again-2 without-requires returns)

@@ -29,9 +29,6 @@ without-requires c κs = omega (arith, start c .pre .trimmable .vertex)
 get-requires : tie.Need-get-requires
 get-requires c κs = omega (arith, start (c .before) .pre .trimmable .vertex)
 
-meet-requires : tie.Need-meet-requires
-meet-requires c κs = search needs
-
 drop-blocked-requires : tie.Need-drop-blocked-requires
 drop-blocked-requires c κs = trimmable c
 
@@ -47,4 +44,4 @@ returns c =
 pub beside-spec : {M : Type 1} → statement M
 beside-spec =
     tie.close
-    (tie.spec with-requires without-requires get-requires meet-requires drop-blocked-requires drop-missing-requires returns)
+    (tie.spec with-requires without-requires get-requires (λ c. search needs) drop-blocked-requires drop-missing-requires returns)

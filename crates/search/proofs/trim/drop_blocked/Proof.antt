@@ -30,14 +30,8 @@ falls c = walk-falls (c .before .lowest .ensures) (c .rest .ensures)
 get-requires : tie.Need-get-requires Inv-loop μ-loop
 get-requires c κs = c .before .pre .vertex
 
-minus-requires : tie.Need-minus-requires Inv-loop μ-loop
-minus-requires c κs = tt
-
 loop-holds : tie.Need-loop-holds Inv-loop μ-loop
 loop-holds c = rw (c .minus .ensures, c .before .get .ensures) (drops-blocked-none (c .before .before .before .pre))
-
-is-empty-requires : tie.Need-is-empty-requires Inv-loop μ-loop
-is-empty-requires c κs = tt
 
 lowest-requires : tie.Need-lowest-requires Inv-loop μ-loop
 lowest-requires c κs = walk-goes-on (c .before .is-empty .ensures) (c .if1 .taken)
@@ -52,9 +46,6 @@ get-requires-2 : tie.Need-get-requires-2 Inv-loop μ-loop
 get-requires-2 c κs =
     let at = c .before .before .before in
     narrowed-vertex (turn at .loop .inv) (at .lowest .ensures)
-
-meet-requires : tie.Need-meet-requires Inv-loop μ-loop
-meet-requires c κs = tt
 
 loop-less : tie.Need-loop-less Inv-loop μ-loop
 loop-less c = falls (c .before .before .before .before)
@@ -84,5 +75,5 @@ returns c =
 pub drop-blocked-spec : {M : Type 1} → statement M
 drop-blocked-spec =
     tie.close
-    (tie.spec Inv-loop μ-loop get-requires minus-requires loop-holds is-empty-requires lowest-requires rest-requires missing-requires get-requires-2
-    meet-requires loop-less loop-again loop-less-2 loop-again-2 returns)
+    (tie.spec Inv-loop μ-loop get-requires (λ c κs. tt) loop-holds (λ c κs. tt) lowest-requires rest-requires missing-requires get-requires-2
+    (λ c κs. tt) loop-less loop-again loop-less-2 loop-again-2 returns)

@@ -26,14 +26,8 @@ turn c = c .before .before .before
 get-requires : tie.Need-get-requires Inv-loop μ-loop
 get-requires c κs = c .before .pre .vertex
 
-minus-requires : tie.Need-minus-requires Inv-loop μ-loop
-minus-requires c κs = tt
-
 loop-holds : tie.Need-loop-holds Inv-loop μ-loop
 loop-holds c = rw (c .minus .ensures, c .before .get .ensures) (drops-missing-none (c .before .before .before .pre) _)
-
-is-empty-requires : tie.Need-is-empty-requires Inv-loop μ-loop
-is-empty-requires c κs = tt
 
 lowest-requires : tie.Need-lowest-requires Inv-loop μ-loop
 lowest-requires c κs = walk-goes-on (c .before .is-empty .ensures) (c .if1 .taken)
@@ -67,5 +61,5 @@ returns c =
 pub drop-missing-spec : {M : Type 1} → statement M
 drop-missing-spec =
     tie.close
-    (tie.spec Inv-loop μ-loop get-requires minus-requires loop-holds is-empty-requires lowest-requires rest-requires missing-requires
+    (tie.spec Inv-loop μ-loop get-requires (λ c κs. tt) loop-holds (λ c κs. tt) lowest-requires rest-requires missing-requires
     without-if-requires loop-less loop-again returns)

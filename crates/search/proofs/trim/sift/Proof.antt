@@ -12,9 +12,6 @@ with-requires c κs =
     let pre = c .before .before .pre in
     omega (arith, pre .trimmable .vertex, pre .trimmable .most)
 
-join-requires : tie.Need-join-requires
-join-requires c κs = tt
-
 pair-row-requires : tie.Need-pair-row-requires
 pair-row-requires c κs =
     let pre = c .before .before .before .before .pre in
@@ -26,4 +23,4 @@ returns-2 c =
     sift-beside (joined .before .before .before .pre) (joined .with .ensures) (c .before .join .ensures) (c .pair-row .ensures)
 
 pub sift-spec : {M : Type 1} → statement M
-sift-spec = tie.close (tie.spec returns with-requires join-requires pair-row-requires returns-2)
+sift-spec = tie.close (tie.spec returns with-requires (λ c κs. tt) pair-row-requires returns-2)
