@@ -1,4 +1,4 @@
--- Laws of masks and of lent words that hold sets, at any number of words per set: how many sets they hold, their parts, blank words. No word of a set is looked at.
+-- Laws of masks and of lent words that hold sets, at any number of words per set: how many sets, their parts, blank words. No word of a set is looked at.
 use Prim.Native.Nat.{ℕ, _+_, _-_, _*_, _/_, _^_, _≤_, _<_}
 use native.Mathlib.Omega.{arith}
 use native.Mathlib.Decide.{decLt}

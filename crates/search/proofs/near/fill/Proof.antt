@@ -50,4 +50,4 @@ returns c =
 
 pub fill-spec : {M : Type 1} → statement M
 fill-spec = tie.close (tie.spec Inv-loop μ-loop (λ c κs. tt) loop-holds near-row-requires put-requires (λ c. omega arith) (λ c. omega arith)
-loop-again same-length returns)
+    loop-again same-length returns)
