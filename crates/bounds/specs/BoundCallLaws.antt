@@ -20,13 +20,12 @@ use Rattle.judging.specs.Calls.{refusal, passed, checkedReply, slackCheck, setC
 use Rattle.judging.specs.PlexLaws.{plex-holds, hereditary}
 use Rattle.judging.specs.RefusalLaws.{first-holds, first-skips, passed-head, passed-tail, passed-front, passed-back}
 use Rattle.judging.specs.RefusalLaws.{slack-accepted, set-checked, set-below, vertex-below}
-use Rattle.judging.specs.CallLaws.{set-outside, set-inside}
+use Rattle.judging.specs.CallLaws.{set-outside, set-inside, front-refused, front-accepted}
 use Rattle.judging.specs.declared.Refusal.{Refusal}
 use Rattle.judging.specs.declared.Checked.{Checked}
 use Rattle.judging.specs.declared.Checked.the-variants.{Passed, Failed}
 use Rattle.bounds.specs.BoundCalls.{overlap, misplaced, boundCause, boundCheck}
 use Rattle.bounds.specs.BoundSetting.{Boundable}
-use Rattle.bounds.specs.CallLaws.{front-refused, front-accepted}
 
 module _ (g : List ℕ) (k s c v : ℕ) where
   -- ---- number 10, as the code tests it

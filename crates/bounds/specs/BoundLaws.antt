@@ -11,7 +11,7 @@ use Rattle.sets.specs.Ranges.{range}
 use Rattle.sets.specs.RangeLaws.{Mem}
 use Rattle.judging.specs.Graph.{missing}
 use Rattle.bounds.specs.Bound.{support, ordered, supports, packable, firstBound, tightest, kept, secondBound}
-use Rattle.bounds.specs.ListLaws.{spent}
+use Rattle.bounds.specs.TightestLaws.{spent}
 use Rattle.bounds.specs.OrderedLaws.{ByCost, ordered-by-cost}
 use Rattle.bounds.specs.KeptLaws.{Rule, costly, free, charged, unsupported, rule, kept-costly, kept-free, kept-charged, kept-unsupported}
 use Rattle.bounds.specs.KeptLaws.{kept-none, pack-none, pack-more}

@@ -1,18 +1,18 @@
 -- Neither bound is below the size of a k-plex m that holds s and v and has no vertex outside s and c: the neighbours of v that m adds to s are a
 -- choice that every member has the support for.
-use Prim.Native.Nat.{ℕ, _+_, _^_, _≤_, _<_, zero-le}
+use Prim.Native.Nat.{ℕ, _+_, _^_, _≤_, _<_}
 use native.Mathlib.Nat.{le-trans}
 use native.Mathlib.Omega.{arith}
-use mathlib.Core.Path.{_≡_, refl, _∙_}
-use mathlib.Core.Bool.{Bool, true, false, _&&_, cond}
+use mathlib.Core.Path.{_≡_, _∙_}
+use mathlib.Core.Bool.{Bool, _&&_}
 use mathlib.Core.List.{List, map}
-use lib.Dec.{T}
 use lib.Bits.{bitAnd, bitOr}
-use lib.ListN.{length, length-map}
+use lib.ListN.{length}
 use Rattle.sets.specs.Ranges.{range, keep, total}
 use Rattle.sets.specs.Set.{bit, has, In, Sub, size, subset, with, minus, members}
 use Rattle.sets.specs.Graph.{row}
-use Rattle.sets.specs.RangeLaws.{range-mem, keep-mem, and-left, and-right}
+use Rattle.sets.specs.RangeLaws.{range-mem, keep-mem, and-left, and-right, cond-true, cond-le}
+use Rattle.sets.specs.ListLaws.{getD-map-range, map-range-length, greatest-le, part-keep}
 use Rattle.sets.specs.BitLaws.{bit-le, bit-and, bit-or, bit-minus}
 use Rattle.sets.specs.PointLaws.{by-bit}
 use Rattle.sets.specs.SubsetLaws.{has-in, in-has, in-below, with-sub, sub-with, with-same, sub-trans, in-of-sub, subset-sub}
@@ -22,19 +22,9 @@ use Rattle.judging.specs.Graph.{missing, Valid}
 use Rattle.judging.specs.Plex.{plex, Plex}
 use Rattle.judging.specs.PlexLaws.{plex-holds, hereditary}
 use Rattle.bounds.specs.Bound.{support, usable, ordered, supports, firstBound, secondBound, largest}
-use Rattle.bounds.specs.ListLaws.{getD-map-range, range-length, greatest-le, part-keep}
 use Rattle.bounds.specs.OrderedLaws.{usableAt, Usable, usable-holds, usable-test, cost-fits, ordered-by-cost}
 use Rattle.bounds.specs.ExchangeLaws.{apart, Feasible, kept-sound}
 use Rattle.bounds.specs.BoundLaws.{second-first}
-
-cond-true : (b : Bool) (x y : ℕ) → T b → cond b x y ≡ x
-cond-true true x y t = refl
-cond-true false x y t = absurd t
-
--- a number that is at most another where the test passes
-cond-le : (b : Bool) (x y : ℕ) → (T b → x ≤ y) → cond b x 0 ≤ y
-cond-le true x y h = h tt
-cond-le false x y h = zero-le
 
 module _ (g : List ℕ) (k s c v m : ℕ) (ok : Valid g) (low : s < 2 ^ length g) (low-m : m < 2 ^ length g)
     (p : Plex g k m) (sm : Sub s m) (vm : In v m) (mc : Sub m (bitOr s c)) (disjoint : (u : ℕ) → In u c → bit s u ≡ 0) where
@@ -141,7 +131,7 @@ module _ (g : List ℕ) (k s c v m : ℕ) (ok : Valid g) (low : s < 2 ^ length g
   unfolding secondBound chosen added
   second-sound =
       let n = length g in
-      let long = length-map (range n) (support g k s) ∙ range-length n in
+      let long = map-range-length (support g k s) n in
       let most = kept-sound low (ordered g k s c v) long (ordered-by-cost g k s c v) (part-keep (has m) (ordered g k s c v)) feasible in
       let inside = size-mono (bitAnd m s) s (λ u. omega (arith, bit-and m s u)) in
       omega (arith, size-minus m s, size-minus (minus m s) (row g v), added-fits v, p v (in-below n m v low-m vm) vm, enough)

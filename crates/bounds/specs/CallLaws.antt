@@ -2,36 +2,21 @@
 use Prim.Native.Nat.{ℕ, _-_, _≤_, _<_}
 use native.Mathlib.Omega.{arith}
 use mathlib.Core.Path.{_≡_, sym, ap, _∙_}
-use mathlib.Core.List.{List, [], _∷_, _++_}
+use mathlib.Core.List.{List, [], _∷_}
 use lib.ListN.{length}
 use borrow.Author.Tests.{le-leb, lt-leb}
 use Rattle.judging.specs.Request.{request}
-use Rattle.judging.specs.Refusal.{Reply, refused, answered, Cause, firstOf, vertexOutCause}
+use Rattle.judging.specs.Refusal.{refused, answered, firstOf, vertexOutCause}
 use Rattle.judging.specs.Calls.{refusal, passed, checkedReply, graphCheck, requestCheck}
 use Rattle.judging.specs.Setting.{Sized, LowRows}
-use Rattle.judging.specs.RefusalLaws.{first-holds, first-skips, first-append}
+use Rattle.judging.specs.RefusalLaws.{first-holds, first-skips}
 use Rattle.judging.specs.RefusalLaws.{graph-sized, graph-checked, slack-graph, slack-accepted, request-slack, floor-accepted}
-use Rattle.judging.specs.CallLaws.{check-failed, check-passed, none-holds}
+use Rattle.judging.specs.CallLaws.{none-holds, front-refused, front-accepted}
 use Rattle.judging.specs.declared.Refusal.{Refusal}
 use Rattle.judging.specs.declared.Checked.{Checked}
 use Rattle.judging.specs.declared.Checked.the-variants.{Passed, Failed}
 use Rattle.bounds.specs.Reach.{reach}
 use Rattle.bounds.specs.Calls.{reachCheck, reachReply}
-
--- ---- the outcome of a check
-
--- what is found once it has passed is the call's answer
-pub answer-found : (cs : List Cause) {r : Checked} {m n : ℕ} → checkedReply r ≡ firstOf cs passed → r ≡ Passed → m ≡ n
-    → answered 0 m ≡ firstOf cs (answered 0 n)
-answer-found cs {r} {m} {n} h e q = ap (answered 0) q ∙ sym (check-passed cs r h (answered 0 n) e)
-
--- the check was of the first causes alone, and others follow
-module _ {A : Type 0} (xs ys : List Cause) (o : Reply A) {r : Checked} (h : checkedReply r ≡ firstOf xs passed) where
-  pub front-refused : {f : Refusal} → r ≡ Failed f → refusal f ≡ firstOf (xs ++ ys) o
-  front-refused {f} e = check-failed xs r h f (firstOf ys o) e ∙ sym (first-append xs ys o)
-
-  pub front-accepted : r ≡ Passed → firstOf (xs ++ ys) o ≡ firstOf ys o
-  front-accepted e = first-append xs ys o ∙ check-passed xs r h (firstOf ys o) e
 
 -- ---- the core
 

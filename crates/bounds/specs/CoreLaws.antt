@@ -17,7 +17,7 @@ use Rattle.sets.specs.Set.{bit, has, Sub, size, without, full}
 use Rattle.sets.specs.RangeLaws.{mem-range, range-mem, any-elim, any-intro, and-left, and-right, both}
 use Rattle.sets.specs.BitLaws.{bit-le, bit-minus}
 use Rattle.sets.specs.PointLaws.{single-out, by-bit}
-use Rattle.sets.specs.WordLaws.{bit-full}
+use Rattle.sets.specs.WordLaws.{sub-full}
 use Rattle.sets.specs.SubsetLaws.{sub-number, sub-refl, sub-trans, sub-antisym, sub-of-in, in-below, has-in, in-has, minus-sub, without-same}
 use Rattle.sets.specs.MemberLaws.{set-of-in, set-of-holds, set-of-below, all-members, members-all}
 use Rattle.sets.specs.WalkLaws.{Walked, walk-none, walk-more, walk-map, walk-all}
@@ -122,7 +122,7 @@ pub holds-dense-none : {g : List ℕ} {m s : ℕ} → s ≡ full (length g) → 
 holds-dense-none {g} {s = s} e =
     record {
       below = omega (arith, e, pow-pos (length g));
-      holds = λ t b d. sub-of-in t s (λ v h. rw e (bit-full (length g) v (in-below (length g) t v b h)));
+      holds = λ t b d. rw e (sub-full (length g) t b);
     }
 
 module _ {g : List ℕ} {m s r : ℕ} (p : Peeled g m s r) where

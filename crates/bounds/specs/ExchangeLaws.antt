@@ -14,13 +14,13 @@ use Rattle.sets.specs.Ranges.{total}
 use Rattle.sets.specs.Set.{bit, In}
 use Rattle.sets.specs.Graph.{row}
 use Rattle.sets.specs.RangeLaws.{Mem}
-use Rattle.sets.specs.SumLaws.{length-total}
+use Rattle.sets.specs.ListLaws.{Part, none, skip, take, part-trans, part-mem, Less, less}
+use Rattle.sets.specs.SumLaws.{length-total, total-witness}
 use Rattle.sets.specs.BitLaws.{bit-le}
 use Rattle.sets.specs.PointLaws.{single-out, in-single, by-bit}
 use Rattle.judging.specs.Graph.{missing}
 use Rattle.bounds.specs.Bound.{tightest, kept}
-use Rattle.bounds.specs.ListLaws.{spent, spent-length, spent-at, total-witness, Part, none, skip, take, part-trans, part-mem, Less, less}
-use Rattle.bounds.specs.TightestLaws.{NonNeighbour, tightest-apart}
+use Rattle.bounds.specs.TightestLaws.{NonNeighbour, tightest-apart, spent, spent-length, spent-at}
 use Rattle.bounds.specs.OrderedLaws.{ByCost}
 use Rattle.bounds.specs.KeptLaws.{Rule, costly, free, charged, unsupported, rule, kept-costly, kept-free, kept-charged, kept-unsupported}
 

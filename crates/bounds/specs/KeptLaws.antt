@@ -12,8 +12,7 @@ use borrow.Author.Tests.{lt-ltb, le-ltb, eq-eqb, ne-eqb, lt-leb, le-leb}
 use Rattle.sets.specs.RangeLaws.{Mem}
 use Rattle.judging.specs.Graph.{missing}
 use Rattle.bounds.specs.Bound.{packable, tightest, kept}
-use Rattle.bounds.specs.ListLaws.{spent}
-use Rattle.bounds.specs.TightestLaws.{Agree, tightest-apart, tightest-agree, spent-agree}
+use Rattle.bounds.specs.TightestLaws.{Agree, tightest-apart, tightest-agree, spent-agree, spent}
 
 -- ---- the second bound
 

@@ -10,7 +10,6 @@ pub mod CoreLaws
 pub mod PairLaws
 pub mod ReachLaws
 pub mod CallLaws
-pub mod ListLaws
 pub mod TightestLaws
 pub mod OrderedLaws
 pub mod KeptLaws

@@ -1,34 +1,35 @@
 -- Laws of the member with the least support: one walk finds it, u is not adjacent to it, and it depends on the supports of the members alone.
 --
 --   NonNeighbour g s w u       w is a member of s that u is not adjacent to
+--   spent sp w                 sp with one less at w
 --   Agree g s sp tp            sp and tp have the same supports for the members of s
 --   Choosing sp s best left    of the members of s those of left are still to come, and best has the least support of the others
-use Prim.Native.Nat.{ℕ, _^_, _≤_, _<_}
+use Prim.Native.Nat.{ℕ, _-_, _^_, _≤_, _<_}
 use native.Mathlib.Nat.{le-refl}
 use native.Mathlib.Omega.{arith}
-use native.Mathlib.Decide.{decLe}
-use mathlib.Core.Path.{_≡_, refl, sym, ap, ap₂, _∙_}
+use native.Mathlib.Decide.{decLe, ℕ-discrete}
+use mathlib.Core.Path.{_≡_, refl, sym, ap, ap₂, _∙_, subst}
 use mathlib.Core.Bool.{Bool, true, false, not, _&&_, cond}
 use mathlib.Core.List.{List, [], _∷_, List·Memᴰ·head, List·Memᴰ·tail, List·Memᴰ·not-nil}
 use lib.Dec.{leb}
-use lib.ListN.{length, getD}
+use lib.ListN.{length, getD, set, length-set}
+use lib.Seq.{getD-set-same, getD-set-other}
 use borrow.Author.Tests.{le-leb, lt-leb}
 use Rattle.sets.specs.Ranges.{range, keep}
 use Rattle.sets.specs.Set.{bit, has, In, Sub, minus, without, members}
 use Rattle.sets.specs.Words.{width, Lowest}
 use Rattle.sets.specs.Graph.{row}
-use Rattle.sets.specs.RangeLaws.{Mem, mem-range, range-mem, keep-mem, mem-keep, and-left, and-right, both}
-use Rattle.sets.specs.BitLaws.{bit-le, bit-minus}
+use Rattle.sets.specs.RangeLaws.{Mem, range-mem, keep-mem, and-left, and-right, both}
+use Rattle.sets.specs.BitLaws.{bit-le, bit-minus, bit-pow-same, bit-pow-other}
 use Rattle.sets.specs.SubsetLaws.{has-in, in-has, not-in, not-has, sub-trans, minus-sub, in-below, positive}
 use Rattle.sets.specs.SizeLaws.{some-member, minus-below}
 use Rattle.sets.specs.KeepLaws.{keep-keep}
-use Rattle.sets.specs.MemberLaws.{members-keep, members-none, members-lowest, member-in}
+use Rattle.sets.specs.MemberLaws.{members-keep, members-none, members-lowest, member-in, mem-members}
 use Rattle.sets.specs.WalkLaws.{walk-below}
 use Rattle.judging.specs.Graph.{adjacent, missing}
 use Rattle.judging.specs.Setting.{Inside}
 use Rattle.bounds.specs.Bound.{lesser, least, tightest}
 use Rattle.bounds.specs.BoundSetting.{LeastMember}
-use Rattle.bounds.specs.ListLaws.{spent, spent-length, spent-at}
 
 -- ---- the lesser of two, and the least of a list
 
@@ -141,10 +142,6 @@ pub record NonNeighbour (g : List ℕ) (s w u : ℕ) : Type 0 where
   pub member : In w s
   pub apart : bit (row g u) w ≡ 0
 
-mem-members : (n s v : ℕ) → v < n → In v s → Mem v (members n s)
-unfolding members
-mem-members n s v l e = mem-keep (has s) (range n) v (mem-range n v l) (in-has s v e)
-
 -- a vertex that costs something has a tightest
 pub tightest-apart : {g : List ℕ} {s : ℕ} → s < 2 ^ length g → (sp : List ℕ) {u : ℕ} → 0 < missing g s u → NonNeighbour g s (tightest g s sp u) u
 unfolding missing
@@ -170,6 +167,25 @@ unfolding missing
 non-neighbours-some g s u e p =
     let x = some-member (minus s (row g u)) p in
     rw e (positive (minus s (row g u)) (x .0) (x .1))
+
+-- ---- one less at a place
+
+unfoldable pub spent : List ℕ → ℕ → List ℕ
+spent sp w = set sp w (getD sp w 0 - 1)
+
+pub spent-length : (sp : List ℕ) (w : ℕ) → length (spent sp w) ≡ length sp
+unfolding spent
+spent-length sp w = length-set sp w (getD sp w 0 - 1)
+
+pub spent-at : (sp : List ℕ) (w v : ℕ) → v < length sp → getD (spent sp w) v 0 ≡ getD sp v 0 - bit (2 ^ w) v
+unfolding spent
+spent-at sp w v l = go (ℕ-discrete v w)
+  where
+    go : Dec (v ≡ w) → getD (set sp w (getD sp w 0 - 1)) v 0 ≡ getD sp v 0 - bit (2 ^ w) v
+    go (yes q) =
+        subst (λ (x : ℕ). getD (set sp x (getD sp x 0 - 1)) v 0 ≡ getD sp v 0 - bit (2 ^ x) v) q
+        (omega (arith, getD-set-same sp v (getD sp v 0 - 1) 0 l, bit-pow-same v))
+    go (no nq) = omega (arith, getD-set-other sp w v (getD sp w 0 - 1) 0 nq, bit-pow-other w v (λ e. nq (sym e)))
 
 -- ---- supports that agree at the members
 

@@ -3,14 +3,14 @@ use Prim.Native.Nat.{ℕ, _^_, _≤_, _<_}
 use native.Mathlib.Omega.{arith}
 use mathlib.Core.Path.{_≡_, refl, sym, ap, _∙_}
 use mathlib.Core.Bool.{Bool, true, false, not}
-use mathlib.Core.List.{List, [], _∷_}
+use mathlib.Core.List.{List, [], _∷_, _++_}
 use lib.Dec.{ltb}
 use lib.ListN.{length}
 use borrow.Author.Tests.{lt-ltb, le-ltb, ltb-true, ltb-false, le-leb, lt-leb, not-true, not-false}
 use Rattle.judging.specs.Refusal.{Reply, refused, answered, Cause, firstOf, badRow, oneWay, lowestRow, rowCause, edgeCause, graphCauses, setCause}
 use Rattle.judging.specs.Calls.{refusal, numberOf, valueOf, passed, checkedReply}
 use Rattle.judging.specs.Setting.{Sized, LowRows}
-use Rattle.judging.specs.RefusalLaws.{first-holds, first-skips, first-refused, first-passed, rows-below}
+use Rattle.judging.specs.RefusalLaws.{first-holds, first-skips, first-append, first-refused, first-passed, rows-below}
 use Rattle.judging.specs.declared.Refusal.{Refusal}
 use Rattle.judging.specs.declared.Refusal.the-variants.{Vertices, Slack, Floor, Row, OneWay, Slots, Outside, Line, Room, Bound}
 use Rattle.judging.specs.declared.Checked.{Checked}
@@ -42,10 +42,18 @@ module _ {A : Type 0} (xs : List Cause) (r : Checked) (h : checkedReply r ≡ fi
 pub none-holds : (xs : List Cause) (r : Checked) → checkedReply r ≡ firstOf xs passed → r ≡ Passed → firstOf xs passed ≡ passed
 none-holds xs r h e = sym h ∙ ap checkedReply e
 
--- a call that tests what passed its checks answers what the test says
-pub check-answers : (xs : List Cause) {r : Checked} {b t : Bool} → checkedReply r ≡ firstOf xs passed → r ≡ Passed → b ≡ t
-    → answered 0 b ≡ firstOf xs (answered 0 t)
+-- what is found once the checks have passed is the call's answer
+pub check-answers : {A : Type 0} (xs : List Cause) {r : Checked} {a b : A} → checkedReply r ≡ firstOf xs passed → r ≡ Passed → a ≡ b
+    → answered 0 a ≡ firstOf xs (answered 0 b)
 check-answers xs h e f = ap (answered 0) f ∙ sym (check-passed xs _ h _ e)
+
+-- the check was of the first causes alone, and others follow
+module _ {A : Type 0} (xs ys : List Cause) (o : Reply A) {r : Checked} (h : checkedReply r ≡ firstOf xs passed) where
+  pub front-refused : {f : Refusal} → r ≡ Failed f → refusal f ≡ firstOf (xs ++ ys) o
+  front-refused {f} e = check-failed xs r h f (firstOf ys o) e ∙ sym (first-append xs ys o)
+
+  pub front-accepted : r ≡ Passed → firstOf (xs ++ ys) o ≡ firstOf ys o
+  front-accepted e = first-append xs ys o ∙ check-passed xs r h (firstOf ys o) e
 
 -- ---- one cause, as the code tests it: b says that the input is accepted
 

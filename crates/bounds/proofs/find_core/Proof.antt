@@ -1,8 +1,8 @@
 -- The checks decide first: a refusal is the call's, and once all have passed the core of q - k is the answer, as k is at most q.
 use borrow.Author.Needs.{needs}
-use Rattle.judging.specs.CallLaws.{check-failed}
+use Rattle.judging.specs.CallLaws.{check-failed, check-answers}
 use Rattle.bounds.specs.Calls.{coreReply}
-use Rattle.bounds.specs.CallLaws.{answer-found, core-sized, core-floor}
+use Rattle.bounds.specs.CallLaws.{core-sized, core-floor}
 use Rattle.bounds.proofs.find_core.Statement.{statement}
 use Rattle.bounds.proofs.find_core.Tie as tie
 
@@ -29,7 +29,7 @@ returns-2 : tie.Need-returns-2
 unfolding coreReply
 returns-2 c =
     let told = c .before .before in
-    answer-found _ (told .before .before .check-request .ensures) (told .enum-told .given .1) (c .core .ensures)
+    check-answers _ (told .before .before .check-request .ensures) (told .enum-told .given .1) (c .core .ensures)
 
 pub find-core-spec : {M : Type 1} → statement M
 find-core-spec =

@@ -1,8 +1,7 @@
 -- The checks decide first: a refusal is the call's, and once all have passed the first bound is the answer.
 use borrow.Author.Needs.{needs}
-use Rattle.judging.specs.CallLaws.{check-failed, none-holds}
+use Rattle.judging.specs.CallLaws.{check-failed, none-holds, check-answers}
 use Rattle.bounds.specs.BoundCalls.{firstBoundReply}
-use Rattle.bounds.specs.CallLaws.{answer-found}
 use Rattle.bounds.specs.BoundCallLaws.{bound-checked}
 use Rattle.bounds.proofs.first_bound.Statement.{statement}
 use Rattle.bounds.proofs.first_bound.Tie as tie
@@ -25,7 +24,7 @@ first-bound-requires c κs = bound-checked _ _ _ _ _ (none-holds _ _ (c .before 
 
 returns-2 : tie.Need-returns-2
 unfolding firstBoundReply
-returns-2 c = answer-found _ (c .before .before .before .check-bound .ensures) (c .before .enum-told .given .1) (c .first-bound .ensures)
+returns-2 c = check-answers _ (c .before .before .before .check-bound .ensures) (c .before .enum-told .given .1) (c .first-bound .ensures)
 
 pub first-bound-spec : {M : Type 1} → statement M
 first-bound-spec =

@@ -1,23 +1,21 @@
--- Laws of lists of numbers that the bounds rest on: what a list has at a place, a part of a list, and a list less one element.
+-- Laws of lists of numbers: what a list has at a place and after a number is stored there, a part of a list, and a list less one element.
 --
---   spent sp w   sp with one less at w
 --   Part ds us   the elements of ds stand in us in the same order
 --   Less x xs    what is left of xs less one x
-use Prim.Native.Nat.{ℕ, zero, suc, _+_, _-_, _*_, _^_, _≤_, _<_, zero-le}
+use Prim.Native.Nat.{ℕ, zero, suc, _+_, _≤_, _<_, zero-le}
 use native.Mathlib.Nat.{not-suc-le-zero, add-zero, add-suc, suc-add, le-of-suc-le-suc}
 use native.Mathlib.Omega.{arith}
-use native.Mathlib.Decide.{decLt, ℕ-discrete}
+use native.Mathlib.Decide.{ℕ-discrete}
 use mathlib.Core.Path.{_≡_, refl, sym, ap, _∙_, subst}
 use mathlib.Core.Logic.{_≢_}
 use mathlib.Core.Bool.{Bool, true, false, cond}
 use mathlib.Core.List.{List, [], _∷_, map, List·Memᴰ·head, List·Memᴰ·tail}
-use lib.ListN.{length, getD, set, length-set}
+use lib.ListN.{length, getD, set, length-map}
 use lib.Seq.{getD-set-same, getD-set-other}
 use Rattle.sets.specs.Ranges.{from, range, keep, total, greatest}
 use Rattle.sets.specs.Set.{bit, Sub}
 use Rattle.sets.specs.Graph.{row}
 use Rattle.sets.specs.RangeLaws.{Mem, length-from}
-use Rattle.sets.specs.BitLaws.{bit-pow-same, bit-pow-other}
 
 -- ---- what a list has at a place
 
@@ -31,9 +29,9 @@ pub getD-map-range : (f : ℕ → ℕ) (n j : ℕ) → j < n → getD (map f (ra
 unfolding range
 getD-map-range f n j l = getD-map-from f 0 n j l ∙ ap f (omega arith)
 
-pub range-length : (n : ℕ) → length (range n) ≡ n
+pub map-range-length : (f : ℕ → ℕ) (n : ℕ) → length (map f (range n)) ≡ n
 unfolding range
-range-length n = length-from 0 n
+map-range-length f n = length-map (range n) f ∙ length-from 0 n
 
 -- f w is stored at w: what was stored of f stays
 pub stored-more : (f : ℕ → ℕ) (sp : List ℕ) (w u : ℕ) {x : ℕ} → w < length sp → x ≡ f w → getD sp u 0 ≡ f u → getD (set sp w x) u 0 ≡ f u
@@ -60,40 +58,7 @@ row-sub b d x l h a u = go (ℕ-discrete a d)
     go (yes q) = rw (q, row-set b d x l) (h u)
     go (no nq) = omega (arith, ap (λ (y : ℕ). bit y u) (row-other b d a x nq))
 
--- ---- one less at a place
-
-unfoldable pub spent : List ℕ → ℕ → List ℕ
-spent sp w = set sp w (getD sp w 0 - 1)
-
-pub spent-length : (sp : List ℕ) (w : ℕ) → length (spent sp w) ≡ length sp
-unfolding spent
-spent-length sp w = length-set sp w (getD sp w 0 - 1)
-
-pub spent-at : (sp : List ℕ) (w v : ℕ) → v < length sp → getD (spent sp w) v 0 ≡ getD sp v 0 - bit (2 ^ w) v
-unfolding spent
-spent-at sp w v l = go (ℕ-discrete v w)
-  where
-    go : Dec (v ≡ w) → getD (set sp w (getD sp w 0 - 1)) v 0 ≡ getD sp v 0 - bit (2 ^ w) v
-    go (yes q) =
-        subst (λ (x : ℕ). getD (set sp x (getD sp x 0 - 1)) v 0 ≡ getD sp v 0 - bit (2 ^ x) v) q
-        (omega (arith, getD-set-same sp v (getD sp v 0 - 1) 0 l, bit-pow-same v))
-    go (no nq) = omega (arith, getD-set-other sp w v (getD sp w 0 - 1) 0 nq, bit-pow-other w v (λ e. nq (sym e)))
-
--- ---- sums and greatest values
-
-pub total-le : (f : ℕ → ℕ) (m : ℕ) (xs : List ℕ) → ((x : ℕ) → f x ≤ m) → total f xs ≤ length xs * m
-unfolding total
-total-le f m [] h = omega arith
-total-le f m (x ∷ xs) h = omega (arith, h x, total-le f m xs h)
-
-pub total-witness : (f : ℕ → ℕ) (xs : List ℕ) → 0 < total f xs → (x : ℕ) × Mem x xs × (0 < f x)
-unfolding total
-total-witness f [] h = absurd (not-suc-le-zero h)
-total-witness f (x ∷ xs) h = go (decLt 0 (f x)) (total-witness f xs)
-  where
-    go : Dec (0 < f x) → (0 < total f xs → (y : ℕ) × Mem y xs × (0 < f y)) → (y : ℕ) × Mem y (x ∷ xs) × (0 < f y)
-    go (yes k) r = (x, List·Memᴰ·head refl, k)
-    go (no nk) r = let z = r (omega arith) in (z .0, List·Memᴰ·tail (z .1), z .2)
+-- ---- the greatest value
 
 pub greatest-le : (f : ℕ → ℕ) (xs : List ℕ) (b : ℕ) → ((x : ℕ) → Mem x xs → f x ≤ b) → greatest f xs ≤ b
 unfolding greatest
