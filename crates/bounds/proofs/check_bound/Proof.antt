@@ -7,20 +7,8 @@ use Rattle.bounds.specs.BoundCallLaws.{set-refused, candidates-refused, 
 use Rattle.bounds.proofs.check_bound.Statement.{statement}
 use Rattle.bounds.proofs.check_bound.Tie as tie
 
-check-set-requires : tie.Need-check-set-requires
-check-set-requires c κs = search needs
-
-enum-known-checked : tie.Need-enum-known-checked
-enum-known-checked c = search needs
-
 returns : tie.Need-returns
 returns c = set-refused _ _ _ _ _ (c .before .before .before .check-set .ensures) (c .before .checked .given .1)
-
-enum-told : tie.Need-enum-told
-enum-told c = search needs
-
-count-requires : tie.Need-count-requires
-count-requires c κs = search needs
 
 below-requires : tie.Need-below-requires
 below-requires c κs =
@@ -70,14 +58,5 @@ pub check-bound-spec : {M : Type 1} → statement M
 check-bound-spec =
     tie.close
     (tie.spec
-    check-set-requires
-    enum-known-checked
-    returns
-    enum-told
-    count-requires
-    below-requires
-    returns-2
-    returns-3
-    is-misplaced-requires
-    returns-4
-    returns-5)
+    (λ c. search needs) (λ c. search needs) returns (λ c. search needs) (λ c. search needs) below-requires returns-2 returns-3 is-misplaced-requires
+    returns-4 returns-5)

@@ -6,18 +6,9 @@ use Rattle.bounds.specs.CallLaws.{core-sized, core-floor}
 use Rattle.bounds.proofs.find_core.Statement.{statement}
 use Rattle.bounds.proofs.find_core.Tie as tie
 
-check-request-requires : tie.Need-check-request-requires
-check-request-requires c κs = search needs
-
-enum-known-checked : tie.Need-enum-known-checked
-enum-known-checked c = search needs
-
 returns : tie.Need-returns
 unfolding coreReply
 returns c = check-failed _ _ (c .before .before .before .check-request .ensures) _ _ (c .before .checked .given .1)
-
-enum-told : tie.Need-enum-told
-enum-told c = search needs
 
 sub-core : tie.Need-sub-core
 sub-core c = core-floor _ _ _ (c .before .before .before .check-request .ensures) (c .before .enum-told .given .1)
@@ -35,10 +26,4 @@ pub find-core-spec : {M : Type 1} → statement M
 find-core-spec =
     tie.close
     (tie.spec
-    check-request-requires
-    enum-known-checked
-    returns
-    enum-told
-    sub-core
-    core-requires
-    returns-2)
+    (λ c. search needs) (λ c. search needs) returns (λ c. search needs) sub-core core-requires returns-2)

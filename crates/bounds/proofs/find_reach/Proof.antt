@@ -5,20 +5,8 @@ use Rattle.bounds.specs.CallLaws.{reach-refused, reach-ready, reach-outs
 use Rattle.bounds.proofs.find_reach.Statement.{statement}
 use Rattle.bounds.proofs.find_reach.Tie as tie
 
-check-graph-requires : tie.Need-check-graph-requires
-check-graph-requires c κs = search needs
-
-enum-known-checked : tie.Need-enum-known-checked
-enum-known-checked c = search needs
-
 returns : tie.Need-returns
 returns c = reach-refused _ _ (c .before .before .before .check-graph .ensures) (c .before .checked .given .1)
-
-enum-told : tie.Need-enum-told
-enum-told c = search needs
-
-count-requires : tie.Need-count-requires
-count-requires c κs = search needs
 
 returns-2 : tie.Need-returns-2
 returns-2 c =
@@ -39,11 +27,4 @@ pub find-reach-spec : {M : Type 1} → statement M
 find-reach-spec =
     tie.close
     (tie.spec
-    check-graph-requires
-    enum-known-checked
-    returns
-    enum-told
-    count-requires
-    returns-2
-    reach-requires
-    returns-3)
+    (λ c. search needs) (λ c. search needs) returns (λ c. search needs) (λ c. search needs) returns-2 reach-requires returns-3)

@@ -6,18 +6,9 @@ use Rattle.bounds.specs.BoundCallLaws.{bound-checked}
 use Rattle.bounds.proofs.first_bound.Statement.{statement}
 use Rattle.bounds.proofs.first_bound.Tie as tie
 
-check-bound-requires : tie.Need-check-bound-requires
-check-bound-requires c κs = search needs
-
-enum-known-checked : tie.Need-enum-known-checked
-enum-known-checked c = search needs
-
 returns : tie.Need-returns
 unfolding firstBoundReply
 returns c = check-failed _ _ (c .before .before .before .check-bound .ensures) _ _ (c .before .checked .given .1)
-
-enum-told : tie.Need-enum-told
-enum-told c = search needs
 
 first-bound-requires : tie.Need-first-bound-requires
 first-bound-requires c κs = bound-checked _ _ _ _ _ (none-holds _ _ (c .before .before .check-bound .ensures) (c .enum-told .given .1))
@@ -30,9 +21,4 @@ pub first-bound-spec : {M : Type 1} → statement M
 first-bound-spec =
     tie.close
     (tie.spec
-    check-bound-requires
-    enum-known-checked
-    returns
-    enum-told
-    first-bound-requires
-    returns-2)
+    (λ c. search needs) (λ c. search needs) returns (λ c. search needs) first-bound-requires returns-2)

@@ -6,9 +6,6 @@ use Rattle.bounds.specs.BoundCallLaws.{misplaced-plex, misplaced-vertex,
 use Rattle.bounds.proofs.is_misplaced.Statement.{statement}
 use Rattle.bounds.proofs.is_misplaced.Tie as tie
 
-with-requires : tie.Need-with-requires
-with-requires c κs = search needs
-
 is-plex-requires : tie.Need-is-plex-requires
 is-plex-requires c κs =
     let inside = c .before .before .pre .0 in
@@ -18,20 +15,11 @@ is-plex-requires c κs =
 returns : tie.Need-returns
 returns c = misplaced-plex _ _ _ _ _ (c .before .before .with .ensures) (c .before .is-plex .ensures) (not-true _ (c .if1 .taken))
 
-has-requires : tie.Need-has-requires
-has-requires c κs = search needs
-
 returns-2 : tie.Need-returns-2
 returns-2 c =
     let plex = c .before .before in
     misplaced-vertex _ _ _ _ _ (plex .before .before .with .ensures) (plex .before .is-plex .ensures) (not-false _ (plex .if1 .left))
     (c .before .has .ensures) (not-true _ (c .if2 .taken))
-
-meet-requires : tie.Need-meet-requires
-meet-requires c κs = search needs
-
-is-empty-requires : tie.Need-is-empty-requires
-is-empty-requires c κs = search needs
 
 returns-3 : tie.Need-returns-3
 returns-3 c =
@@ -44,11 +32,4 @@ pub is-misplaced-spec : {M : Type 1} → statement M
 is-misplaced-spec =
     tie.close
     (tie.spec
-    with-requires
-    is-plex-requires
-    returns
-    has-requires
-    returns-2
-    meet-requires
-    is-empty-requires
-    returns-3)
+    (λ c. search needs) is-plex-requires returns (λ c. search needs) returns-2 (λ c. search needs) (λ c. search needs) returns-3)

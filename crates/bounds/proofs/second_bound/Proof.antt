@@ -6,18 +6,9 @@ use Rattle.bounds.specs.BoundCallLaws.{bound-checked}
 use Rattle.bounds.proofs.second_bound.Statement.{statement}
 use Rattle.bounds.proofs.second_bound.Tie as tie
 
-check-bound-requires : tie.Need-check-bound-requires
-check-bound-requires c κs = search needs
-
-enum-known-checked : tie.Need-enum-known-checked
-enum-known-checked c = search needs
-
 returns : tie.Need-returns
 unfolding secondBoundReply
 returns c = check-failed _ _ (c .before .before .before .check-bound .ensures) _ _ (c .before .checked .given .1)
-
-enum-told : tie.Need-enum-told
-enum-told c = search needs
 
 second-bound-requires : tie.Need-second-bound-requires
 second-bound-requires c κs = bound-checked _ _ _ _ _ (none-holds _ _ (c .before .before .check-bound .ensures) (c .enum-told .given .1))
@@ -30,9 +21,4 @@ pub second-bound-spec : {M : Type 1} → statement M
 second-bound-spec =
     tie.close
     (tie.spec
-    check-bound-requires
-    enum-known-checked
-    returns
-    enum-told
-    second-bound-requires
-    returns-2)
+    (λ c. search needs) (λ c. search needs) returns (λ c. search needs) second-bound-requires returns-2)

@@ -14,20 +14,8 @@ Inv-loop rows m s₀ s = HoldsDense (masks rows) m (mask s)
 abbrev μ-loop : tie.MeasureT-loop
 μ-loop rows m s₀ s = mask s
 
-count-requires : tie.Need-count-requires Inv-loop μ-loop
-count-requires c κs = search needs
-
-full-requires : tie.Need-full-requires Inv-loop μ-loop
-full-requires c κs = search needs
-
 loop-holds : tie.Need-loop-holds Inv-loop μ-loop
 loop-holds c = holds-dense-none (c .full .ensures ∙ ap full (c .before .count .ensures))
-
-pass-requires : tie.Need-pass-requires Inv-loop μ-loop
-pass-requires c κs = search needs
-
-same-requires : tie.Need-same-requires Inv-loop μ-loop
-same-requires c κs = search needs
 
 returns : tie.Need-returns Inv-loop μ-loop
 returns c =
@@ -44,13 +32,4 @@ pub core-spec : {M : Type 1} → statement M
 core-spec =
     tie.close
     (tie.spec
-    Inv-loop
-    μ-loop
-    count-requires
-    full-requires
-    loop-holds
-    pass-requires
-    same-requires
-    returns
-    loop-less
-    loop-again)
+    Inv-loop μ-loop (λ c. search needs) (λ c. search needs) loop-holds (λ c. search needs) (λ c. search needs) returns loop-less loop-again)

@@ -8,15 +8,6 @@ use borrow.Author.Needs.{needs}
 use Rattle.bounds.proofs.core.degree.Statement.{statement}
 use Rattle.bounds.proofs.core.degree.Tie as tie
 
-get-requires : tie.Need-get-requires
-get-requires c κs = search needs
-
-meet-requires : tie.Need-meet-requires
-meet-requires c κs = search needs
-
-size-requires : tie.Need-size-requires
-size-requires c κs = search needs
-
 returns : tie.Need-returns
 unfolding degree
 returns c = (
@@ -25,4 +16,4 @@ returns c = (
 )
 
 pub degree-spec : {M : Type 1} → statement M
-degree-spec = tie.close (tie.spec get-requires meet-requires size-requires returns)
+degree-spec = tie.close (tie.spec (λ c. search needs) (λ c. search needs) (λ c. search needs) returns)

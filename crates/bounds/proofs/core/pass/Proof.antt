@@ -16,9 +16,6 @@ abbrev μ-loop : tie.MeasureT-loop
 loop-holds : tie.Need-loop-holds Inv-loop μ-loop
 loop-holds c = peeling-none
 
-is-empty-requires : tie.Need-is-empty-requires Inv-loop μ-loop
-is-empty-requires c κs = search needs
-
 lowest-requires : tie.Need-lowest-requires Inv-loop μ-loop
 lowest-requires c κs = walk-goes-on (c .before .is-empty .ensures) (c .if1 .taken)
 
@@ -26,12 +23,6 @@ degree-requires : tie.Need-degree-requires Inv-loop μ-loop
 degree-requires c κs =
     let turn = c .before .before .before in
     walk-below _ _ _ _ (turn .before .before .pre .below) (turn .loop .inv .walked .part) (c .lowest .ensures)
-
-without-requires : tie.Need-without-requires Inv-loop μ-loop
-without-requires c κs = search needs
-
-rest-requires : tie.Need-rest-requires Inv-loop μ-loop
-rest-requires c κs = search needs
 
 loop-less : tie.Need-loop-less Inv-loop μ-loop
 loop-less c = walk-falls (c .before .before .before .lowest .ensures) (c .rest .ensures)
@@ -55,14 +46,5 @@ pub pass-spec : {M : Type 1} → statement M
 pass-spec =
     tie.close
     (tie.spec
-    Inv-loop
-    μ-loop
-    loop-holds
-    is-empty-requires
-    lowest-requires
-    degree-requires
-    without-requires
-    rest-requires
-    loop-less
-    loop-again
+    Inv-loop μ-loop loop-holds (λ c. search needs) lowest-requires degree-requires (λ c. search needs) (λ c. search needs) loop-less loop-again
     returns)

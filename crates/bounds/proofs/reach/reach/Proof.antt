@@ -13,17 +13,8 @@ Inv-loop rows v left₀ found₀ left found = Reaching (masks rows) v (mask left
 abbrev μ-loop : tie.MeasureT-loop
 μ-loop rows v left₀ found₀ left found = mask left
 
-get-requires : tie.Need-get-requires Inv-loop μ-loop
-get-requires c κs = search needs
-
-with-requires : tie.Need-with-requires Inv-loop μ-loop
-with-requires c κs = search needs
-
 loop-holds : tie.Need-loop-holds Inv-loop μ-loop
 loop-holds c = rw (c .with .ensures, c .before .get .ensures) (reaching-none (c .before .before .before .pre .0) (omega arith))
-
-is-empty-requires : tie.Need-is-empty-requires Inv-loop μ-loop
-is-empty-requires c κs = search needs
 
 lowest-requires : tie.Need-lowest-requires Inv-loop μ-loop
 lowest-requires c κs = walk-goes-on (c .before .is-empty .ensures) (c .if1 .taken)
@@ -33,12 +24,6 @@ get-requires-2 c κs =
     let turn = c .before .before .before in
     let start = turn .before .before .before .before in
     walk-below _ _ _ _ (start .pre .0 .low _ (start .pre .1)) (turn .loop .inv .two .part) (c .lowest .ensures)
-
-join-requires : tie.Need-join-requires Inv-loop μ-loop
-join-requires c κs = search needs
-
-rest-requires : tie.Need-rest-requires Inv-loop μ-loop
-rest-requires c κs = search needs
 
 loop-less : tie.Need-loop-less Inv-loop μ-loop
 loop-less c = walk-falls (c .before .before .before .lowest .ensures) (c .rest .ensures)
@@ -59,16 +44,5 @@ pub reach-spec : {M : Type 1} → statement M
 reach-spec =
     tie.close
     (tie.spec
-    Inv-loop
-    μ-loop
-    get-requires
-    with-requires
-    loop-holds
-    is-empty-requires
-    lowest-requires
-    get-requires-2
-    join-requires
-    rest-requires
-    loop-less
-    loop-again
-    returns)
+    Inv-loop μ-loop (λ c. search needs) (λ c. search needs) loop-holds (λ c. search needs) lowest-requires get-requires-2 (λ c. search needs)
+    (λ c. search needs) loop-less loop-again returns)
