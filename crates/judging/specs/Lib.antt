@@ -10,6 +10,5 @@ pub mod PlexLaws
 pub mod ExtensionLaws
 pub mod NarrowLaws
 pub mod RefusalLaws
-pub mod JudgeLaws
 pub mod CallLaws
 pub mod OutcomeLaws

@@ -5,16 +5,17 @@ use native.Mathlib.Nat.{lt-of-not-le}
 use mathlib.Core.Path.{_≡_, refl, sym, ap, _∙_}
 use mathlib.Core.Bool.{Bool, true, false, not, _&&_, _||_, cond}
 use mathlib.Core.List.{List, [], _∷_, _++_}
-use lib.Dec.{T, leb, ltb, le→leb, not-T}
+use lib.Dec.{T, leb, ltb, le→leb, T-not, not-T}
 use lib.ListN.{length}
-use borrow.Author.Tests.{ltb-false, leb-false}
+use borrow.Author.Tests.{ltb-true, ltb-false, leb-true, leb-false, lt-ltb, le-ltb, le-leb, lt-leb}
 use Rattle.sets.specs.Ranges.{range, first}
 use Rattle.sets.specs.Set.{bit, In, has}
 use Rattle.sets.specs.Graph.{row}
-use Rattle.sets.specs.RangeLaws.{mem-range, range-mem, any-intro, both, or-left, or-right, first-none}
+use Rattle.sets.specs.RangeLaws.{mem-range, range-mem, any-elim, any-intro, first-none}
+use Rattle.sets.specs.RangeLaws.{and-left, and-right, both, or-left, or-right, is-true, is-false, true-holds}
 use Rattle.sets.specs.BitLaws.{bit-le}
 use Rattle.sets.specs.PointLaws.{by-bit}
-use Rattle.sets.specs.SubsetLaws.{in-has, not-in, not-has}
+use Rattle.sets.specs.SubsetLaws.{has-in, in-has, not-in, not-has}
 use Rattle.judging.specs.Graph.{adjacent, Valid}
 use Rattle.judging.specs.Request.{Request}
 use Rattle.judging.specs.Refusal.{Reply, refused, answered, Cause, firstOf, mostVertices, mostSlack, outside, vertexCause, slackCause, floorCause}
@@ -125,6 +126,19 @@ within-range lo hi n e = go (ltb n lo) (ltb hi n) refl refl e
     go true b p q z = absurd (let w : _≡_ {A = ℕ} 0 1 = cc in omega arith)
     go false true p q z = absurd (let w : _≡_ {A = ℕ} 0 1 = cc in omega arith)
 
+-- below lo, and from lo on, where hi decides
+pub below-low : (lo hi n : ℕ) → n < lo → false ≡ not (outside lo hi n)
+unfolding outside
+below-low lo hi n a = ap (λ (x : Bool). not (x || ltb hi n)) (sym (lt-ltb n lo a))
+
+pub above-low : (lo hi n : ℕ) → lo ≤ n → leb n hi ≡ not (outside lo hi n)
+unfolding outside
+above-low lo hi n a = go (leb n hi) refl ∙ ap (λ (x : Bool). not (x || ltb hi n)) (sym (le-ltb n lo a))
+  where
+    go : (b : Bool) → leb n hi ≡ b → b ≡ not (ltb hi n)
+    go true e = ap not (sym (le-ltb hi n (leb-true n hi e)))
+    go false e = ap not (sym (lt-ltb hi n (leb-false n hi e)))
+
 -- ---- the table
 
 module _ (g : List ℕ) where
@@ -143,11 +157,43 @@ module _ (g : List ℕ) where
   rows-below h a l =
       lt-of-not-le (λ k. no-bad-row h a l (or-right (has (row g a) a) (leb (2 ^ length g) (row g a)) (le→leb (2 ^ length g) (row g a) k)))
 
+  -- a row with its own bit, and a row without
+  pub own-bit : (a : ℕ) → has (row g a) a ≡ true → badRow g a ≡ true
+  unfolding badRow
+  own-bit a e = ap (λ (x : Bool). x || leb (2 ^ length g) (row g a)) e
+
+  pub reaches : (a : ℕ) (b : Bool) → has (row g a) a ≡ false → b ≡ ltb (row g a) (2 ^ length g) → not b ≡ badRow g a
+  unfolding badRow
+  reaches a b e h = go b h ∙ ap (λ (x : Bool). x || leb (2 ^ length g) (row g a)) (sym e)
+    where
+      go : (b : Bool) → b ≡ ltb (row g a) (2 ^ length g) → not b ≡ leb (2 ^ length g) (row g a)
+      go true h = sym (lt-leb (2 ^ length g) (row g a) (ltb-true (row g a) (2 ^ length g) (sym h)))
+      go false h = sym (le-leb (2 ^ length g) (row g a) (ltb-false (row g a) (2 ^ length g) (sym h)))
+
+  -- a row with a one-way link, and a row without
   one-way : ℕ → ℕ → Bool
   one-way a b = adjacent g a b && not (adjacent g b a)
 
+  one-way-test : (a b : ℕ) → b < length g → In b (row g a) → T (not (has (row g b) a)) → T (oneWay g a)
+  unfolding oneWay one-way adjacent
+  one-way-test a b l i o =
+      any-intro (one-way a) (range (length g)) b (mem-range (length g) b l)
+      (both (adjacent g a b) (not (adjacent g b a)) (in-has (row g a) b i) o)
+
+  pub one-way-found : (a b : ℕ) → b < length g → In b (row g a) → has (row g b) a ≡ false → oneWay g a ≡ true
+  one-way-found a b l i h = sym (is-true (oneWay g a) (one-way-test a b l i (true-holds (not (has (row g b) a)) (ap not h))))
+
+  pub one-way-none : (a : ℕ) → ((b : ℕ) → In b (row g a) → has (row g b) a ≡ true) → oneWay g a ≡ false
+  unfolding oneWay one-way adjacent
+  one-way-none a f =
+      sym (is-false (oneWay g a) (λ t.
+      let r = any-elim (one-way a) (range (length g)) t in
+      let b = r .0 in
+      T-not (adjacent g b a) (and-right (adjacent g a b) (not (adjacent g b a)) (r .2))
+      (true-holds (has (row g b) a) (f b (has-in (row g a) b (and-left (adjacent g a b) (not (adjacent g b a)) (r .2)))))))
+
   graph-valid : firstOf (graphCauses g) passed ≡ passed → Valid g
-  unfolding graphCauses edgeCause badRow oneWay adjacent one-way
+  unfolding graphCauses edgeCause badRow
   graph-valid e = record { low = rows-below h4; loopless = loopless; mutually = mutually }
     where
       h4 : rowCause g .holds ≡ false
@@ -162,10 +208,7 @@ module _ (g : List ℕ) where
           (not-T (has (row g a) a) (λ t. no-bad-row h4 a l (or-left (has (row g a) a) (leb (2 ^ length g) (row g a)) t)))
 
       never : (a b : ℕ) → a < length g → b < length g → In b (row g a) → bit (row g b) a ≡ 0 → ⊥
-      never a b la lb i o =
-          no-row (oneWay g) h5 a la
-          (any-intro (one-way a) (range (length g)) b (mem-range (length g) b lb)
-          (both (adjacent g a b) (not (adjacent g b a)) (in-has (row g a) b i) (not-has (row g b) a o)))
+      never a b la lb i o = no-row (oneWay g) h5 a la (one-way-test a b lb i (not-has (row g b) a o))
 
       half : (a b : ℕ) → a < length g → b < length g → bit (row g a) b ≤ bit (row g b) a
       half a b la lb =

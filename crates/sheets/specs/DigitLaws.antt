@@ -1,7 +1,7 @@
 -- Laws of digits: a digit and its byte are inverse, and so are a number and its digits, whatever the number of digits. The records at the end say what the
 -- loops over digits know at each turn.
 use Prim.Native.Nat.{ℕ, zero, suc, _+_, _-_, _*_, _/_, _%_, _^_, _≤_, _<_}
-use native.Mathlib.Nat.{lt-of-lt-of-le, pow-le-pow-right, le-refl, not-suc-le-zero, le-of-suc-le-suc, zero-lt-suc}
+use native.Mathlib.Nat.{lt-of-lt-of-le, pow-le-pow-right, le-refl, zero-lt-suc}
 use native.Mathlib.Nat.{pow-suc, add-zero, zero-add, add-suc, suc-add}
 use native.Mathlib.Omega.{arith}
 use native.Mathlib.Numerals.{add-one}
@@ -12,10 +12,10 @@ use mathlib.Core.List.{List, [], _∷_, _++_, append-assoc, append-nil}
 use lib.Dec.{T, leb, ltb→lt, lt→ltb}
 use borrow.Author.Tests.{le-leb, lt-leb, lt-ltb, le-ltb}
 use lib.Arith.{digits-div, digits-mod, lt-one, le-zero}
-use lib.ListN.{length, getD, take, drop, set, length-append, length-set, take-append-drop, drop-of-length-le}
-use lib.Seq.{drop-cons, take-add, take-take, getD-set-same, drop-set-lt, drop-length, lt-length-set}
+use lib.ListN.{length, getD, drop, set, length-append, length-set, drop-of-length-le}
+use lib.Seq.{drop-cons, getD-set-same, drop-set-lt, drop-length, lt-length-set}
 use Rattle.sets.specs.Ranges.{all}
-use Rattle.sets.specs.RangeLaws.{and-left, and-right, both}
+use Rattle.sets.specs.RangeLaws.{and-left, and-right, both, all-append, all-at, all-next}
 use Rattle.sheets.specs.Digits.{noDigit, between, digitValue, isDigit, digitByte, digits, numberFrom, number}
 use Rattle.sheets.specs.Setting.{Readable}
 
@@ -92,37 +92,6 @@ byte-value b t = go (decLt b 48) (decLe b 57) (decLt b 65) (decLe b 70)
     go (no np) (no nq) (no nr) (no ns) = absurd (omega (arith, value-above b (omega arith), digit-below b t))
 
 -- ---- digits in a list
-
-pub all-append : (p : ℕ → Bool) (xs ys : List ℕ) → T (all p xs) → T (all p ys) → T (all p (xs ++ ys))
-unfolding all
-all-append p [] ys s t = t
-all-append p (x ∷ xs) ys s t = both (p x) (all p (xs ++ ys)) (and-left (p x) (all p xs) s) (all-append p xs ys (and-right (p x) (all p xs) s) t)
-
-pub all-front : (p : ℕ → Bool) (xs ys : List ℕ) → T (all p (xs ++ ys)) → T (all p xs)
-unfolding all
-all-front p [] ys t = tt
-all-front p (x ∷ xs) ys t = both (p x) (all p xs) (and-left (p x) (all p (xs ++ ys)) t) (all-front p xs ys (and-right (p x) (all p (xs ++ ys)) t))
-
-pub all-back : (p : ℕ → Bool) (xs ys : List ℕ) → T (all p (xs ++ ys)) → T (all p ys)
-unfolding all
-all-back p [] ys t = t
-all-back p (x ∷ xs) ys t = all-back p xs ys (and-right (p x) (all p (xs ++ ys)) t)
-
-pub all-part : (p : ℕ → Bool) (at w m : ℕ) (t : List ℕ) → at + w ≤ m → T (all p (take m t)) → T (all p (take w (drop at t)))
-all-part p at w m t l d =
-    let whole = subst (λ (u : List ℕ). T (all p u)) (sym (take-append-drop (at + w) (take m t))) d in
-    let front = all-front p (take (at + w) (take m t)) (drop (at + w) (take m t)) whole in
-    all-back p (take at t) (take w (drop at t)) (subst (λ (u : List ℕ). T (all p u)) (take-take (at + w) m t l ∙ take-add at w t) front)
-
-pub all-at : (p : ℕ → Bool) (t : List ℕ) (i : ℕ) → T (all p t) → i < length t → T (p (getD t i 0))
-unfolding all
-all-at p [] i s l = absurd (not-suc-le-zero l)
-all-at p (x ∷ t) zero s l = and-left (p x) (all p t) s
-all-at p (x ∷ t) (suc i) s l = all-at p t i (and-right (p x) (all p t) s) (le-of-suc-le-suc l)
-
-all-next : (p : ℕ → Bool) (t : List ℕ) (i : ℕ) → i < length t → all p (drop i t) ≡ (p (getD t i 0) && all p (drop (i + 1) t))
-unfolding all
-all-next p t i l = ap (all p) (drop-cons t i 0 l) ∙ ap (λ (n : ℕ). p (getD t i 0) && all p (drop n t)) (sym (add-one i))
 
 pub digits-length : (w x : ℕ) → length (digits w x) ≡ w
 unfolding digits

@@ -7,7 +7,7 @@ use mathlib.Core.List.{List, [], _++_, append-assoc}
 use lib.Dec.{T}
 use lib.ListN.{length, getD, take, drop, set, length-append, length-drop}
 use lib.Seq.{drop-cons, drop-drop, drop-at, set-at, length-take-le}
-use Rattle.sets.specs.RangeLaws.{true-holds}
+use Rattle.sets.specs.RangeLaws.{true-holds, all-part}
 use Rattle.judging.specs.Request.{Request, request}
 use Rattle.judging.specs.Refusal.{Reply, refused, answered, firstOf, mostVertices, mostSlack, outside, vertexCause, slackCause, floorCause}
 use Rattle.judging.specs.CallLaws.{not-accepted, accepted}
@@ -17,7 +17,7 @@ use Rattle.sheets.specs.Sheet.{fieldDigits, headingDigits, headingLength
 use Rattle.sheets.specs.Sheet.{vertexField, slackField, floorField, headingCause, headingCauses}
 use Rattle.sheets.specs.Calls.{Heading, heading, headingIn}
 use Rattle.sheets.specs.Setting.{Readable, HeadingField}
-use Rattle.sheets.specs.DigitLaws.{all-part, digits-length}
+use Rattle.sheets.specs.DigitLaws.{digits-length}
 use Rattle.sheets.specs.LineLaws.{line-first, right-fits, right-digits, part-same, put-next}
 use Rattle.sheets.specs.SheetLaws.{fieldsText, fields-length, heading-length}
 

@@ -11,7 +11,7 @@ use lib.Pow.{pow-mono}
 use lib.ListN.{length, take, drop, length-append, length-drop, drop-of-length-le}
 use lib.Seq.{take-at, drop-at, take-add, drop-drop, length-take-le}
 use Rattle.sets.specs.Ranges.{all}
-use Rattle.sets.specs.RangeLaws.{true-holds}
+use Rattle.sets.specs.RangeLaws.{true-holds, all-append, all-part}
 use Rattle.sets.specs.Graph.{row}
 use Rattle.sets.specs.Words.{width}
 use Rattle.judging.specs.Request.{Request}
@@ -25,7 +25,7 @@ use Rattle.sheets.specs.Lines.{newline, line, lines, isLine, field, righ
 use Rattle.sheets.specs.Sheet.{headingDigits, rowDigits, rowLength, sheetLength, headingText, sheetText}
 use Rattle.sheets.specs.Sheet.{vertexField, slackField, floorField, requestIn, body, Sheet, sheet, sheetOf}
 use Rattle.sheets.specs.Sheet.{headingCause, rowsCause, roomCause, headingCauses, bodyCauses, reading, writing}
-use Rattle.sheets.specs.DigitLaws.{digits-length, all-digits, all-append, all-part, number-digits, digits-number}
+use Rattle.sheets.specs.DigitLaws.{digits-length, all-digits, number-digits, digits-number}
 use Rattle.sheets.specs.LineLaws.{line-length, line-drop, line-right, right-digits, right-fits, right-line, right-lines, right-most}
 use Rattle.sheets.specs.LineLaws.{lines-length, lines-right, lines-numbers, numbers-length}
 

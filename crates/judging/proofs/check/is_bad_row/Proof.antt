@@ -1,6 +1,6 @@
 -- A row is bad by its own bit, or, where it lacks that, by a bit of n or above: the two halves of the test, in this order.
 use mathlib.Core.Path.{sym, _∙_}
-use Rattle.judging.specs.JudgeLaws.{own-bit, reaches}
+use Rattle.judging.specs.RefusalLaws.{own-bit, reaches}
 use borrow.Author.Needs.{needs}
 use Rattle.judging.proofs.check.is_bad_row.Statement.{statement}
 use Rattle.judging.proofs.check.is_bad_row.Tie as tie

@@ -1,7 +1,7 @@
 -- n is outside where it is below lo or above hi: below lo the first test fails, and from lo on the second decides.
 use mathlib.Core.Path.{_∙_}
 use borrow.Author.Tests.{lt-leb}
-use Rattle.judging.specs.JudgeLaws.{above-low, below-low}
+use Rattle.judging.specs.RefusalLaws.{above-low, below-low}
 use Rattle.judging.proofs.check.is_between.Statement.{statement}
 use Rattle.judging.proofs.check.is_between.Tie as tie
 

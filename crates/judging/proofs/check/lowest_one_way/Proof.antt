@@ -12,7 +12,7 @@ use Rattle.sets.specs.Words.{mask, masks}
 use Rattle.sets.specs.RangeLaws.{first-at}
 use Rattle.sets.specs.WalkLaws.{Walked, walk-none, walk-next, walk-all, walk-falls, walk-member, walk-below, walk-goes-on, walk-over}
 use Rattle.judging.specs.Refusal.{oneWay, lowestRow}
-use Rattle.judging.specs.JudgeLaws.{one-way-found, one-way-none}
+use Rattle.judging.specs.RefusalLaws.{one-way-found, one-way-none}
 use borrow.Author.Needs.{needs}
 use Rattle.judging.proofs.check.lowest_one_way.Statement.{statement}
 use Rattle.judging.proofs.check.lowest_one_way.Tie as tie

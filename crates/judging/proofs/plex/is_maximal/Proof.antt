@@ -3,9 +3,8 @@ use mathlib.Core.Path.{sym, ap, _∙_}
 use mathlib.Core.Bool.{not}
 use borrow.Author.Tests.{not-true, not-false}
 use Rattle.sets.specs.RangeLaws.{true-holds}
-use Rattle.judging.specs.PlexLaws.{plex-holds}
+use Rattle.judging.specs.PlexLaws.{plex-holds, no-plex}
 use Rattle.judging.specs.ExtensionLaws.{maximal-by-extension}
-use Rattle.judging.specs.JudgeLaws.{no-plex}
 use borrow.Author.Needs.{needs}
 use Rattle.judging.proofs.plex.is_maximal.Statement.{statement}
 use Rattle.judging.proofs.plex.is_maximal.Tie as tie

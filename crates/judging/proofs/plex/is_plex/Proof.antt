@@ -6,7 +6,7 @@ use Rattle.sets.specs.Words.{mask, masks}
 use Rattle.sets.specs.WalkLaws.{Walked, walk-none, walk-next, walk-falls, walk-below, walk-goes-on, walk-over}
 use Rattle.judging.specs.Graph.{missing}
 use Rattle.judging.specs.Setting.{Inside}
-use Rattle.judging.specs.JudgeLaws.{plex-fails, plex-passes}
+use Rattle.judging.specs.PlexLaws.{plex-fails, plex-passes}
 use Rattle.judging.proofs.plex.is_plex.Statement.{statement}
 use Rattle.judging.proofs.plex.is_plex.Tie as tie
 
