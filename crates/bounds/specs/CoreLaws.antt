@@ -84,14 +84,14 @@ pub record Peeling (g : List ℕ) (m s left kept : ℕ) : Type 0 where
   pub walked : Walked (λ v. kept ≡ s → m ≤ degree g s v) s left
 
 pub peeling-none : {g : List ℕ} {m s : ℕ} → Peeling g m s s s
-peeling-none {s = s} = record { part = sub-refl s; keeps = λ t d h. h; walked = walk-none _ s }
+peeling-none {s = s} = record { part = sub-refl s; keeps = λ t d h. h; walked = walk-none }
 
 module _ {g : List ℕ} {m s left kept v d : ℕ} (p : Peeling g m s left kept) (here : Lowest left v) (deg : d ≡ degree g kept v) where
   -- v stays
   pub peeling-same : m ≤ d → Peeling g m s (without left v) kept
   peeling-same many =
       let enough : (kept ≡ s → m ≤ degree g s v) = λ q. omega (arith, ap (λ (y : ℕ). degree g y v) q) in
-      record { part = p .part; keeps = p .keeps; walked = walk-more _ s left v (p .walked) enough }
+      record { part = p .part; keeps = p .keeps; walked = walk-more (p .walked) enough }
 
   -- v goes: it is in no dense set inside s, as it is adjacent to fewer than m of what is left of s
   pub peeling-more : v < length g → d < m → Peeling g m s (without left v) (without kept v)
@@ -101,7 +101,7 @@ module _ {g : List ℕ} {m s left kept v d : ℕ} (p : Peeling g m s left kept) 
         keeps = λ t dt h u.
             let out = by-bit t v (λ i. absurd (omega (arith, dt v l i, degree-mono g t kept v (p .keeps t dt h)))) (λ o. o) in
             omega (arith, p .keeps t dt h u, bit-minus kept (2 ^ v) u, single-out t v u out);
-        walked = walk-more _ s left v (walk-map _ _ s left (λ u h q. absurd (less q)) (p .walked)) (λ q. absurd (less q));
+        walked = walk-more (walk-map (λ u h q. absurd (less q)) (p .walked)) (λ q. absurd (less q));
       }
     where
       less : without kept v ≡ s → ⊥
@@ -110,7 +110,7 @@ module _ {g : List ℕ} {m s left kept v d : ℕ} (p : Peeling g m s left kept) 
 -- the pass is done
 pub peeling-all : {g : List ℕ} {m s left kept : ℕ} → Peeling g m s left kept → left ≡ 0 → Peeled g m s kept
 peeling-all {s = s} {left = left} p z =
-    record { part = p .part; keeps = p .keeps; still = λ q v l e. walk-all _ s left z (p .walked) v e q }
+    record { part = p .part; keeps = p .keeps; still = λ q v l e. walk-all z (p .walked) v e q }
 
 -- ---- passes until none is taken
 

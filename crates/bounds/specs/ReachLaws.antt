@@ -107,7 +107,7 @@ reaching-none {g} {a} low l =
     record {
       self = with-same (row g a) a;
       one = sub-with (row g a) a;
-      two = walk-none _ (row g a);
+      two = walk-none;
       only = with-sub (row g a) a (reach g a) (sub-of-in _ _ (λ v e. reach-one g a v (in-below _ _ v (low .low a l) e) e)) (reach-self g a l);
     }
 
@@ -118,7 +118,7 @@ reaching-next {g} {a} {left} {s} {w} low l r here =
     record {
       self = omega (arith, bit-or s (row g w) a, r .self, bit-le (row g w) a);
       one = λ v. omega (arith, bit-or s (row g w) v, r .one v);
-      two = walk-more _ (row g a) left w (walk-map _ _ (row g a) left wider (r .two)) (λ v. omega (arith, bit-or s (row g w) v));
+      two = walk-more (walk-map wider (r .two)) (λ v. omega (arith, bit-or s (row g w) v));
       only = λ v. omega (arith, bit-or s (row g w) v, r .only v, mine v);
     }
   where
@@ -126,8 +126,8 @@ reaching-next {g} {a} {left} {s} {w} low l r here =
     wider u h v = omega (arith, bit-or s (row g w) v, h v)
 
     mine : Sub (row g w) (reach g a)
-    mine = sub-of-in _ _ (λ v h. reach-two g a v w (in-below _ _ v (low .low w l) h) l (walk-member _ _ _ (r .two .part) here) h)
+    mine = sub-of-in _ _ (λ v h. reach-two g a v w (in-below _ _ v (low .low w l) h) l (walk-member _ (r .two .part) here) h)
 
 pub reaching-all : {g : List ℕ} {a left s : ℕ} → Reaching g a left s → left ≡ 0 → s ≡ reach g a
 reaching-all {g} {a} {left} {s} r z =
-    sub-antisym s (reach g a) (r .only) (reach-only g a s (r .self) (r .one) (λ w h. walk-all _ (row g a) left z (r .two) w h))
+    sub-antisym s (reach g a) (r .only) (reach-only g a s (r .self) (r .one) (λ w h. walk-all z (r .two) w h))

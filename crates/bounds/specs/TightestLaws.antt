@@ -108,7 +108,7 @@ choosing-next {sp} {s} {best} {left} {w} y here e fits q =
           ap₂ (λ (x z : ℕ). least sp 0 (x ∷ members n z)) q e
           ∙ sym (least-step sp 0 best w (members n (without left w)))
           ∙ ap (λ (xs : List ℕ). least sp 0 (best ∷ xs))
-          (sym (members-lowest left w (here .member) (here .least) n (walk-below n s left w l (y .part) here)))
+          (sym (members-lowest left w (here .member) (here .least) n (walk-below l (y .part) here)))
           ∙ y .same n l;
     }
 

@@ -114,7 +114,7 @@ module _ (g : List ℕ) (k s : ℕ) {left : ℕ} (w : Walked (λ x. k ≤ missin
   pub extendable-by : {x : ℕ} → Lowest left x → missing g s x < k → true ≡ extendable g k s
   unfolding extendable
   extendable-by {x} l m =
-      let i = walk-member (unblocked g k s) left x (w .part) l in
+      let i = walk-member (unblocked g k s) (w .part) l in
       is-true (extendable g k s)
       (members-any (λ (y : ℕ). ltb (missing g s y) k) (length g) (unblocked g k s) x
       (in-below (length g) (unblocked g k s) x (unblocked-below g k s) i) i (lt→ltb (missing g s x) k m))
@@ -124,4 +124,4 @@ module _ (g : List ℕ) (k s : ℕ) {left : ℕ} (w : Walked (λ x. k ≤ missin
   extendable-by-none z =
       is-false (extendable g k s) (λ t.
       let r = any-members (λ (y : ℕ). ltb (missing g s y) k) (length g) (unblocked g k s) t in
-      omega (arith, walk-all _ (unblocked g k s) left z w (r .0) (r .2), ltb→lt (missing g s (r .0)) k (r .3)))
+      omega (arith, walk-all z w (r .0) (r .2), ltb→lt (missing g s (r .0)) k (r .3)))

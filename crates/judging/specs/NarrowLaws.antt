@@ -33,18 +33,18 @@ pub record Narrowed (g : List ℕ) (k s w pool left r : ℕ) : Type 0 where
   pub stays : (x : ℕ) → In x pool → ClearOf g k s w x → In x r
 
 pub narrowed-none : {g : List ℕ} {k s w pool : ℕ} → w < 2 ^ length g → Narrowed g k s w pool w pool
-narrowed-none {w = w} {pool = pool} b = record { within = b; part = sub-refl pool; walked = walk-none _ w; stays = λ x i q. i }
+narrowed-none {w = w} {pool = pool} b = record { within = b; part = sub-refl pool; walked = walk-none; stays = λ x i q. i }
 
 -- ---- one step: v is the lowest member to come, and rest is what is to come after it
 
 module _ {g : List ℕ} {k s w pool left r v : ℕ} (h : Narrowed g k s w pool left r) (l : Lowest left v) where
   pub narrowed-vertex : v < length g
-  narrowed-vertex = walk-below _ _ _ _ (h .within) (h .walked .part) l
+  narrowed-vertex = walk-below (h .within) (h .walked .part) l
 
   module _ {rest : ℕ} (e : rest ≡ without left v) where
     pub narrowed-same : missing g s v < k → Narrowed g k s w pool rest r
     narrowed-same few =
-        record { within = h .within; part = h .part; walked = walk-next _ w left v rest e (h .walked) (λ m. absurd (omega arith)); stays = h .stays }
+        record { within = h .within; part = h .part; walked = walk-next v e (h .walked) (λ m. absurd (omega arith)); stays = h .stays }
 
     pub narrowed-more : {p : ℕ} → p ≡ bitAnd r (row g v) → k ≤ missing g s v → Narrowed g k s w pool rest p
     narrowed-more f m =
@@ -53,9 +53,9 @@ module _ {g : List ℕ} {k s w pool left r v : ℕ} (h : Narrowed g k s w pool l
           within = h .within;
           part = λ x. omega (arith, bit-and r (row g v) x, h .part x);
           walked =
-              walk-next _ w left v rest e (walk-map _ _ w left (λ u b q x. omega (arith, bit-and r (row g v) x, b q x)) (h .walked))
+              walk-next v e (walk-map (λ u b q x. omega (arith, bit-and r (row g v) x, b q x)) (h .walked))
               (λ _ x. omega (arith, bit-and r (row g v) x));
-          stays = λ x i q. omega (arith, bit-and r (row g v) x, h .stays x i q, q v (walk-member _ _ _ (h .walked .part) l) m);
+          stays = λ x i q. omega (arith, bit-and r (row g v) x, h .stays x i q, q v (walk-member _ (h .walked .part) l) m);
         })
 
     pub narrowed-next : {n b p : ℕ} → n ≡ missing g s v → b ≡ row g v → (k ≤ n → p ≡ bitAnd r b) × (n < k → p ≡ r)
@@ -70,7 +70,7 @@ module _ {g : List ℕ} {k s w pool left r v : ℕ} (h : Narrowed g k s w pool l
 
 module _ {g : List ℕ} {k s w pool left r : ℕ} (z : left ≡ 0) (h : Narrowed g k s w pool left r) where
   pub narrowed-all : (u : ℕ) → In u w → k ≤ missing g s u → Sub r (row g u)
-  narrowed-all = walk-all _ w left z (h .walked)
+  narrowed-all = walk-all z (h .walked)
 
 -- the vertices outside s, narrowed by all its members, are those that no member blocks
 pub narrowed-unblocked : {g : List ℕ} {k s left r : ℕ} → left ≡ 0 → Narrowed g k s s (minus (full (length g)) s) left r → r ≡ unblocked g k s

@@ -39,10 +39,10 @@ module _ {g : List ℕ} {k s left : ℕ} (h : Inside g s) (w : Walked (λ v. mis
   pub plex-fails : {v : ℕ} → Lowest left v → k < missing g s v → false ≡ plex g k s
   plex-fails {v} l m =
       is-false (plex g k s) (λ t.
-      omega (arith, plex-holds g k s t v (walk-below _ s left v (h .below) (w .part) l) (walk-member s left v (w .part) l)))
+      omega (arith, plex-holds g k s t v (walk-below (h .below) (w .part) l) (walk-member s (w .part) l)))
 
   pub plex-passes : left ≡ 0 → true ≡ plex g k s
-  plex-passes z = is-true (plex g k s) (plex-test g k s (λ v l e. walk-all _ s left z w v e))
+  plex-passes z = is-true (plex g k s) (plex-test g k s (λ v l e. walk-all z w v e))
 
 -- a part of a plex is a plex
 pub hereditary : (g : List ℕ) (k s t : ℕ) → Sub s t → Plex g k t → Plex g k s

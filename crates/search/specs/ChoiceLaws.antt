@@ -40,4 +40,4 @@ module _ {s left b v rest : ℕ} (h : Choosing s left b) (l : Lowest left v) (e 
   choosing-same = record { member = h .member; part = rest-part }
 
   pub choosing-more : Choosing s rest v
-  choosing-more = record { member = walk-member s left v (h .part) l; part = rest-part }
+  choosing-more = record { member = walk-member s (h .part) l; part = rest-part }

@@ -119,22 +119,22 @@ pub record Sharing (g : List ℕ) (s left m : ℕ) : Type 0 where
   pub every : (x : ℕ) → x < length g → ((u : ℕ) → In u s → In x (row g u)) → In x m
 
 pub sharing-none : {g : List ℕ} {s m : ℕ} → m ≡ full (length g) → Sharing g s s m
-sharing-none {g} {s} e = rw e (record { below = ones-lt (length g); beside = walk-none _ s; every = λ x l f. bit-full (length g) x l })
+sharing-none {g} {s} e = rw e (record { below = ones-lt (length g); beside = walk-none; every = λ x l f. bit-full (length g) x l })
 
 pub sharing-next : {g : List ℕ} {s left m v r w n : ℕ} → Sharing g s left m → Lowest left v → r ≡ without left v → w ≡ row g v → n ≡ bitAnd m w
     → Sharing g s r n
 sharing-next {g} {s} {left} {m} {v} {r} {w} {n} h low er ew en =
     rw (en, ew) (record {
       below = and-below (length g) m (row g v) (h .below);
-      beside = walk-next _ s left v r er (walk-map _ _ s left narrow (h .beside)) (λ x. omega (arith, bit-and m (row g v) x));
-      every = λ x l f. omega (arith, bit-and m (row g v) x, h .every x l f, f v (walk-member s left v (h .beside .part) low));
+      beside = walk-next v er (walk-map narrow (h .beside)) (λ x. omega (arith, bit-and m (row g v) x));
+      every = λ x l f. omega (arith, bit-and m (row g v) x, h .every x l f, f v (walk-member s (h .beside .part) low));
     })
   where
     narrow : (u : ℕ) → Sub m (row g u) → Sub (bitAnd m (row g v)) (row g u)
     narrow u k x = omega (arith, bit-and m (row g v) x, k x)
 
 pub sharing-all : {g : List ℕ} {s left m : ℕ} → Sharing g s left m → left ≡ 0 → Common g s m
-sharing-all {g} {s} {left} {m} h z = record { below = h .below; beside = walk-all _ s left z (h .beside); every = h .every }
+sharing-all {g} {s} {left} {m} h z = record { below = h .below; beside = walk-all z (h .beside); every = h .every }
 
 -- ---- the choice of a pivot
 
@@ -157,7 +157,7 @@ pivoting-next {m = m} {left = left} {v = v} h low e w = record { cover = w; part
 -- the candidates that the vertex looked at is not adjacent to
 pub pivoting-covers : {g : List ℕ} {c m left best v w r : ℕ} → Pivoting g c m left best → Lowest left v → w ≡ row g v → r ≡ minus c w → Covering g c m r
 pivoting-covers {g} {c} {m} {left} {best} {v} h low ew e =
-    rw (e, ew) (record { pivot = v; member = walk-member m left v (h .part) low; covers = sub-refl (minus c (row g v)); part = minus-sub c (row g v) })
+    rw (e, ew) (record { pivot = v; member = walk-member m (h .part) low; covers = sub-refl (minus c (row g v)); part = minus-sub c (row g v) })
 
 -- ---- what a pivot is for
 

@@ -44,7 +44,7 @@ module _ {g : List ℕ} {k r left todo kept best most : ℕ} (h : Picking g k r 
   -- u is passed: more are those that stay, u among them or not
   module _ {u rest : ℕ} (l : Lowest todo u) (e : rest ≡ without todo u) where
     passed : In u left
-    passed = walk-member left todo u (h .part) l
+    passed = walk-member left (h .part) l
 
     pub picking-same : {more : ℕ} → Sub more (with kept u) → Picking g k r left rest more best most
     picking-same {more} p =

@@ -22,7 +22,7 @@ pub record Finding (g : List ℕ) (k a left most worst free : ℕ) : Type 0 wher
   pub reached : 0 < most → In worst a × (missing g a worst ≡ most)
 
 pub finding-none : {g : List ℕ} {k a worst : ℕ} → a < 2 ^ length g → Finding g k a a 0 worst (minus (full (length g)) a)
-finding-none {a = a} b = record { narrowed = narrowed-none b; bounded = walk-none _ a; reached = λ l. absurd (omega arith) }
+finding-none {a = a} b = record { narrowed = narrowed-none b; bounded = walk-none; reached = λ l. absurd (omega arith) }
 
 -- one member more: v misses n, and what is free is narrowed to p by its row b
 module _ {g : List ℕ} {k a left most worst free v rest n b p : ℕ} (h : Finding g k a left most worst free) (l : Lowest left v)
@@ -31,7 +31,7 @@ module _ {g : List ℕ} {k a left most worst free v rest n b p : ℕ} (h : Findi
   finding-same few =
       record {
         narrowed = narrowed-next (h .narrowed) l e z y f;
-        bounded = walk-next _ a left v rest e (h .bounded) (omega arith);
+        bounded = walk-next v e (h .bounded) (omega arith);
         reached = h .reached;
       }
 
@@ -39,13 +39,13 @@ module _ {g : List ℕ} {k a left most worst free v rest n b p : ℕ} (h : Findi
   finding-more many =
       record {
         narrowed = narrowed-next (h .narrowed) l e z y f;
-        bounded = walk-next _ a left v rest e (walk-map _ _ a left (λ u d. omega arith) (h .bounded)) (omega arith);
-        reached = λ _. (walk-member a left v (h .bounded .part) l, sym z);
+        bounded = walk-next v e (walk-map (λ u d. omega arith) (h .bounded)) (omega arith);
+        reached = λ _. (walk-member a (h .bounded .part) l, sym z);
       }
 
 pub finding-all : {g : List ℕ} {k a left most worst free : ℕ} → left ≡ 0 → Finding g k a left most worst free → Finds g k a most worst free
 finding-all {a = a} {left = left} z h =
-    record { bounded = walk-all _ a left z (h .bounded); reached = h .reached; opened = narrowed-unblocked z (h .narrowed) }
+    record { bounded = walk-all z (h .bounded); reached = h .reached; opened = narrowed-unblocked z (h .narrowed) }
 
 -- where no member misses more than k the set is a plex
 pub finds-plex : {g : List ℕ} {k a most worst free : ℕ} → Finds g k a most worst free → most ≤ k → Plex g k a

@@ -22,12 +22,12 @@ pub record Dropping (n : ℕ) (p : ℕ → Bool) (s w left r : ℕ) : Type 0 whe
 
 module _ {n : ℕ} {p : ℕ → Bool} {s w : ℕ} where
   pub dropping-none : w < 2 ^ n → Dropping n p s w w s
-  dropping-none b = record { within = b; part = sub-refl s; walked = walk-none _ w; stays = λ u i f. i }
+  dropping-none b = record { within = b; part = sub-refl s; walked = walk-none; stays = λ u i f. i }
 
   -- v is the lowest vertex to come, and rest is what is to come after it
   module _ {left r v : ℕ} (h : Dropping n p s w left r) (l : Lowest left v) where
     pub dropping-vertex : v < n
-    dropping-vertex = walk-below n w left v (h .within) (h .walked .part) l
+    dropping-vertex = walk-below (h .within) (h .walked .part) l
 
     pub dropping-next : {rest q : ℕ} (b : Bool) → rest ≡ without left v → b ≡ p v → q ≡ cond b (without r v) r → Dropping n p s w rest q
     dropping-next {rest} false e t f =
@@ -35,7 +35,7 @@ module _ {n : ℕ} {p : ℕ → Bool} {s w : ℕ} where
         (record {
           within = h .within;
           part = h .part;
-          walked = walk-next _ w left v rest e (h .walked) (λ y. absurd (false-fails (p v) (sym t) y));
+          walked = walk-next v e (h .walked) (λ y. absurd (false-fails (p v) (sym t) y));
           stays = h .stays;
         })
     dropping-next {rest} true e t f =
@@ -44,7 +44,7 @@ module _ {n : ℕ} {p : ℕ → Bool} {s w : ℕ} where
           within = h .within;
           part = λ u. omega (arith, bit-minus r (2 ^ v) u, h .part u);
           walked =
-              walk-next _ w left v rest e (walk-map _ _ w left (λ u b y. omega (arith, bit-minus r (2 ^ v) u, b y)) (h .walked))
+              walk-next v e (walk-map (λ u b y. omega (arith, bit-minus r (2 ^ v) u, b y)) (h .walked))
               (λ _. without-same r v);
           stays = λ u i no-pass.
               by-bit (2 ^ v) u (λ same. absurd (no-pass (subst (λ (y : ℕ). T (p y)) (in-single v u same) (true-holds (p v) (sym t)))))
@@ -52,4 +52,4 @@ module _ {n : ℕ} {p : ℕ → Bool} {s w : ℕ} where
         })
 
   pub dropping-all : {left r : ℕ} → left ≡ 0 → Dropping n p s w left r → (u : ℕ) → In u w → T (p u) → bit r u ≡ 0
-  dropping-all {left} z h = walk-all _ w left z (h .walked)
+  dropping-all {left} z h = walk-all z (h .walked)

@@ -22,7 +22,7 @@ lowest-requires c κs = walk-goes-on (c .before .is-empty .ensures) (c .if1 .tak
 degree-requires : tie.Need-degree-requires Inv-loop μ-loop
 degree-requires c κs =
     let turn = c .before .before .before in
-    walk-below _ _ _ _ (turn .before .before .pre .below) (turn .loop .inv .walked .part) (c .lowest .ensures)
+    walk-below (turn .before .before .pre .below) (turn .loop .inv .walked .part) (c .lowest .ensures)
 
 loop-less : tie.Need-loop-less Inv-loop μ-loop
 loop-less c = walk-falls (c .before .before .before .lowest .ensures) (c .rest .ensures)

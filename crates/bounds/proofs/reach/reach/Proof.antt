@@ -23,7 +23,7 @@ get-requires-2 : tie.Need-get-requires-2 Inv-loop μ-loop
 get-requires-2 c κs =
     let turn = c .before .before .before in
     let start = turn .before .before .before .before in
-    walk-below _ _ _ _ (start .pre .0 .low _ (start .pre .1)) (turn .loop .inv .two .part) (c .lowest .ensures)
+    walk-below (start .pre .0 .low _ (start .pre .1)) (turn .loop .inv .two .part) (c .lowest .ensures)
 
 loop-less : tie.Need-loop-less Inv-loop μ-loop
 loop-less c = walk-falls (c .before .before .before .lowest .ensures) (c .rest .ensures)

@@ -33,7 +33,7 @@ rows-holds : tie.Need-rows-holds Inv-loop μ-loop Inv-rows μ-rows
 rows-holds c = (omega arith, below-none _)
 
 loop-holds : tie.Need-loop-holds Inv-loop μ-loop Inv-rows μ-rows
-loop-holds c = subst (Walked _ _) (sym (c .get .ensures)) (walk-none _ _)
+loop-holds c = subst (Walked _ _) (sym (c .get .ensures)) (walk-none)
 
 lowest-requires : tie.Need-lowest-requires Inv-loop μ-loop Inv-rows μ-rows
 lowest-requires c κs = walk-goes-on (c .before .is-empty .ensures) (c .if1 .taken)
@@ -41,7 +41,7 @@ lowest-requires c κs = walk-goes-on (c .before .is-empty .ensures) (c .if1 .tak
 get-requires-2 : tie.Need-get-requires-2 Inv-loop μ-loop Inv-rows μ-rows
 get-requires-2 c κs =
     let start = c .before .before .before .before .before .before .before .before .before in
-    walk-below _ _ _ _ (start .pre .low _ (omega arith)) (c .before .before .before .loop .inv .part) (c .lowest .ensures)
+    walk-below (start .pre .low _ (omega arith)) (c .before .before .before .loop .inv .part) (c .lowest .ensures)
 
 rest-requires : tie.Need-rest-requires Inv-loop μ-loop Inv-rows μ-rows
 rest-requires c κs = c .before .before .before .lowest .ensures
@@ -52,7 +52,7 @@ loop-less c = walk-falls (c .before .before .before .before .lowest .ensures) (c
 loop-again : tie.Need-loop-again Inv-loop μ-loop Inv-rows μ-rows
 loop-again c =
     let found = c .before .before .before in
-    walk-next _ _ _ _ _ (c .rest .ensures) (found .before .before .before .before .loop .inv)
+    walk-next _ (c .rest .ensures) (found .before .before .before .before .loop .inv)
     (rw (found .get2 .ensures) at (sym (c .before .before .has .ensures) ∙ not-false _ (c .before .if2 .left)))
 
 rows-again : tie.Need-rows-again Inv-loop μ-loop Inv-rows μ-rows
@@ -60,7 +60,7 @@ rows-again c = (
   omega arith,
   below-more _ _ (c .before .before .before .before .before .rows .inv .1)
       (one-way-none _ _
-      (walk-all _ _ _ (walk-over (c .before .is-empty .ensures) (c .if1 .left)) (c .before .before .loop .inv))),
+      (walk-all (walk-over (c .before .is-empty .ensures) (c .if1 .left)) (c .before .before .loop .inv))),
 )
 
 returns : tie.Need-returns Inv-loop μ-loop Inv-rows μ-rows
@@ -75,8 +75,8 @@ returns-2 c =
     let outer = turn .before .before .before in
     sym (first-at _ _ _ (outer .rows .inv .0) (outer .rows .inv .1) (λ l.
     one-way-found _ _ _
-    (walk-below _ _ _ _ (outer .before .before .before .pre .low _ l) (turn .loop .inv .part) (found .before .lowest .ensures))
-    (walk-member _ _ _ (turn .loop .inv .part) (found .before .lowest .ensures))
+    (walk-below (outer .before .before .before .pre .low _ l) (turn .loop .inv .part) (found .before .lowest .ensures))
+    (walk-member _ (turn .loop .inv .part) (found .before .lowest .ensures))
     (rw (found .get2 .ensures) at (sym (c .before .has .ensures) ∙ not-true _ (c .if2 .taken)))))
 
 pub lowest-one-way-spec : {M : Type 1} → statement M

@@ -22,7 +22,7 @@ abbrev turn : tie.After-lowest Inv-loop μ-loop → tie.At-loop Inv-loop μ-loop
 turn c = c .before .before .before
 
 loop-holds : tie.Need-loop-holds Inv-loop μ-loop
-loop-holds c = subst (Walked _ _) (sym (c .before .pre)) (walk-none _ _)
+loop-holds c = subst (Walked _ _) (sym (c .before .pre)) (walk-none)
 
 is-empty-requires : tie.Need-is-empty-requires Inv-loop μ-loop
 is-empty-requires c κs = tt
@@ -31,7 +31,7 @@ lowest-requires : tie.Need-lowest-requires Inv-loop μ-loop
 lowest-requires c κs = walk-goes-on (c .before .is-empty .ensures) (c .if1 .taken)
 
 missing-requires : tie.Need-missing-requires Inv-loop μ-loop
-missing-requires c κs = walk-below _ _ _ _ (unblocked-below _ _ _) (turn c .loop .inv .part) (c .lowest .ensures)
+missing-requires c κs = walk-below (unblocked-below _ _ _) (turn c .loop .inv .part) (c .lowest .ensures)
 
 returns : tie.Need-returns Inv-loop μ-loop
 returns c =
@@ -45,7 +45,7 @@ loop-less : tie.Need-loop-less Inv-loop μ-loop
 loop-less c = walk-falls (c .before .before .before .lowest .ensures) (c .rest .ensures)
 
 loop-again : tie.Need-loop-again Inv-loop μ-loop
-loop-again c = walk-next _ _ _ _ _ (c .rest .ensures) (turn (c .before .before .before) .loop .inv) (omega arith)
+loop-again c = walk-next _ (c .rest .ensures) (turn (c .before .before .before) .loop .inv) (omega arith)
 
 returns-2 : tie.Need-returns-2 Inv-loop μ-loop
 returns-2 c = extendable-by-none _ _ _ (c .before .before .loop .inv) (walk-over (c .before .is-empty .ensures) (c .if1 .left))

@@ -24,7 +24,7 @@ within : (c : tie.After-lowest Inv-loop μ-loop) → Inside (masks (now (turn c 
 within c = turn c .before .before .pre
 
 loop-holds : tie.Need-loop-holds Inv-loop μ-loop
-loop-holds c = walk-none _ _
+loop-holds c = walk-none
 
 is-empty-requires : tie.Need-is-empty-requires Inv-loop μ-loop
 is-empty-requires c κs = tt
@@ -33,7 +33,7 @@ lowest-requires : tie.Need-lowest-requires Inv-loop μ-loop
 lowest-requires c κs = walk-goes-on (c .before .is-empty .ensures) (c .if1 .taken)
 
 missing-requires : tie.Need-missing-requires Inv-loop μ-loop
-missing-requires c κs = walk-below _ _ _ _ (within c .below) (turn c .loop .inv .part) (c .lowest .ensures)
+missing-requires c κs = walk-below (within c .below) (turn c .loop .inv .part) (c .lowest .ensures)
 
 returns : tie.Need-returns Inv-loop μ-loop
 returns c =
@@ -47,7 +47,7 @@ loop-less : tie.Need-loop-less Inv-loop μ-loop
 loop-less c = walk-falls (c .before .before .before .lowest .ensures) (c .rest .ensures)
 
 loop-again : tie.Need-loop-again Inv-loop μ-loop
-loop-again c = walk-next _ _ _ _ _ (c .rest .ensures) (turn (c .before .before .before) .loop .inv) (omega arith)
+loop-again c = walk-next _ (c .rest .ensures) (turn (c .before .before .before) .loop .inv) (omega arith)
 
 returns-2 : tie.Need-returns-2 Inv-loop μ-loop
 returns-2 c =

@@ -36,7 +36,7 @@ rest-requires c κs = c .lowest2 .ensures
 missing-requires : tie.Need-missing-requires Inv-loop μ-loop
 missing-requires c κs =
     let at = turn (c .before) in
-    walk-below _ _ _ _ (at .before .before .before .pre .below) (at .loop .inv .part) (c .before .lowest2 .ensures)
+    walk-below (at .before .before .before .pre .below) (at .loop .inv .part) (c .before .lowest2 .ensures)
 
 loop-less : tie.Need-loop-less Inv-loop μ-loop
 loop-less c = falls (c .before .before)

@@ -30,7 +30,7 @@ lowest-requires : tie.Need-lowest-requires Inv-loop μ-loop
 lowest-requires c κs = walk-goes-on (c .before .is-empty .ensures) (c .if1 .taken)
 
 get-requires : tie.Need-get-requires Inv-loop μ-loop
-get-requires c κs = walk-below _ _ _ _ (turn c .before .before .before .before .pre .below) (turn c .loop .inv .beside .part) (c .before .lowest .ensures)
+get-requires c κs = walk-below (turn c .before .before .before .before .pre .below) (turn c .loop .inv .beside .part) (c .before .lowest .ensures)
 
 loop-less : tie.Need-loop-less Inv-loop μ-loop
 loop-less c = let passed = c .before .before in walk-falls (passed .before .lowest .ensures) (passed .rest .ensures)

@@ -28,7 +28,7 @@ rest-requires : tie.Need-rest-requires Inv-loop μ-loop
 rest-requires c κs = c .lowest .ensures
 
 get-requires : tie.Need-get-requires Inv-loop μ-loop
-get-requires c κs = walk-below _ _ _ _ (turn c .before .before .pre .below) (turn c .loop .inv .part) (c .before .lowest .ensures)
+get-requires c κs = walk-below (turn c .before .before .pre .below) (turn c .loop .inv .part) (c .before .lowest .ensures)
 
 returns : tie.Need-returns Inv-loop μ-loop
 returns c =

@@ -33,7 +33,7 @@ rest-requires c κs = c .lowest .ensures
 missing-requires : tie.Need-missing-requires Inv-loop μ-loop
 missing-requires c κs =
     let at = turn (c .before) in
-    walk-below _ _ _ _ (at .before .before .before .pre) (at .loop .inv .part) (c .before .lowest .ensures)
+    walk-below (at .before .before .before .pre) (at .loop .inv .part) (c .before .lowest .ensures)
 
 keep-requires : tie.Need-keep-requires Inv-loop μ-loop
 keep-requires c κs = c .before .before .lowest .ensures .fits
