@@ -109,7 +109,7 @@ module _ {g : List ℕ} {m s left kept v d : ℕ} (p : Peeling g m s left kept) 
 
 -- the pass is done
 pub peeling-all : {g : List ℕ} {m s left kept : ℕ} → Peeling g m s left kept → left ≡ 0 → Peeled g m s kept
-peeling-all {s = s} {left = left} p z =
+peeling-all p z =
     record { part = p .part; keeps = p .keeps; still = λ q v l e. walk-all z (p .walked) v e q }
 
 -- ---- passes until none is taken
@@ -119,7 +119,7 @@ pub record HoldsDense (g : List ℕ) (m s : ℕ) : Type 0 where
   pub holds : (t : ℕ) → t < 2 ^ length g → Dense g m t → Sub t s
 
 pub holds-dense-none : {g : List ℕ} {m s : ℕ} → s ≡ full (length g) → HoldsDense g m s
-holds-dense-none {g} {s = s} e =
+holds-dense-none {g} e =
     record {
       below = omega (arith, e, pow-pos (length g));
       holds = λ t b d. rw e (sub-full (length g) t b);

@@ -33,7 +33,7 @@ pub record Narrowed (g : List ℕ) (k s w pool left r : ℕ) : Type 0 where
   pub stays : (x : ℕ) → In x pool → ClearOf g k s w x → In x r
 
 pub narrowed-none : {g : List ℕ} {k s w pool : ℕ} → w < 2 ^ length g → Narrowed g k s w pool w pool
-narrowed-none {w = w} {pool = pool} b = record { within = b; part = sub-refl pool; walked = walk-none; stays = λ x i q. i }
+narrowed-none {pool = pool} b = record { within = b; part = sub-refl pool; walked = walk-none; stays = λ x i q. i }
 
 -- ---- one step: v is the lowest member to come, and rest is what is to come after it
 

@@ -22,7 +22,7 @@ pub record Finding (g : List ℕ) (k a left most worst free : ℕ) : Type 0 wher
   pub reached : 0 < most → In worst a × (missing g a worst ≡ most)
 
 pub finding-none : {g : List ℕ} {k a worst : ℕ} → a < 2 ^ length g → Finding g k a a 0 worst (minus (full (length g)) a)
-finding-none {a = a} b = record { narrowed = narrowed-none b; bounded = walk-none; reached = λ l. absurd (omega arith) }
+finding-none b = record { narrowed = narrowed-none b; bounded = walk-none; reached = λ l. absurd (omega arith) }
 
 -- one member more: v misses n, and what is free is narrowed to p by its row b
 module _ {g : List ℕ} {k a left most worst free v rest n b p : ℕ} (h : Finding g k a left most worst free) (l : Lowest left v)
@@ -44,7 +44,7 @@ module _ {g : List ℕ} {k a left most worst free v rest n b p : ℕ} (h : Findi
       }
 
 pub finding-all : {g : List ℕ} {k a left most worst free : ℕ} → left ≡ 0 → Finding g k a left most worst free → Finds g k a most worst free
-finding-all {a = a} {left = left} z h =
+finding-all z h =
     record { bounded = walk-all z (h .bounded); reached = h .reached; opened = narrowed-unblocked z (h .narrowed) }
 
 -- where no member misses more than k the set is a plex
