@@ -5,7 +5,7 @@ use mathlib.Core.Path.{_≡_, refl, sym, ap, _∙_, subst}
 use mathlib.Core.List.{List}
 use lib.ListN.{length, take, drop, length-append}
 use Rattle.sets.specs.Words.{perSet, masks}
-use Rattle.sets.specs.Words.Masks.{count-masks}
+use Rattle.sets.specs.Words.Masks.{count-masks, lent-before}
 use Rattle.judging.specs.Request.{Request}
 use Rattle.judging.specs.Refusal.{Reply, refused, answered, mostVertices}
 use Rattle.judging.specs.Calls.{refusal, numberOf, valueOf}
@@ -16,7 +16,6 @@ use Rattle.sheets.specs.Calls.{Heading, heading, headingOf, readReply}
 use Rattle.sheets.specs.declared.SheetRead.{SheetRead}
 use Rattle.sheets.specs.declared.SheetRead.the-variants as reads
 use Rattle.lists.specs.Listing.{listing}
-use Rattle.lists.specs.PartLaws.{lent-before}
 use Rattle.search.specs.Calls.{listReply, listFoundReply, slotsAfter}
 use Rattle.search.specs.declared.ListFound.{ListFound}
 use Rattle.search.specs.declared.ListFound.the-variants as lists

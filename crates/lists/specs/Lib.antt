@@ -2,7 +2,6 @@
 pub mod Listing
 pub mod Order
 pub mod Placing
-pub mod PartLaws
 pub mod OrderLaws
 pub mod PlacingLaws
 pub mod ListingLaws

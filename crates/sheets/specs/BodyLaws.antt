@@ -10,7 +10,7 @@ use lib.ListN.{length, take, drop, length-append, length-drop, length-replicate}
 use lib.Seq.{take-at, length-take-le}
 use Rattle.sets.specs.Words.{perSet, width, masks}
 use Rattle.sets.specs.Words.Groups.{blank}
-use Rattle.sets.specs.Words.Masks.{count-masks, take-masks, blank-masks}
+use Rattle.sets.specs.Words.Masks.{count-masks, lent-length, blank-masks}
 use Rattle.judging.specs.Refusal.{refused, firstOf, graphCauses}
 use Rattle.judging.specs.Calls.{passed}
 use Rattle.judging.specs.Setting.{Sized}
@@ -65,30 +65,27 @@ module _ {n : ℕ} {t : List ℕ} (h : RowLines n t) (a : ℕ) (l : a < n) where
       })
 
 -- n sets at the front of longer words, which end at the word `end`
-module _ (n : ℕ) {end : ℕ} (at : end ≡ n * perSet) where
-  pub taken-rows : (ws : List ℕ) → n ≤ length (masks ws) → length (masks (take end ws)) ≡ n
-  taken-rows ws l = ap (λ (m : ℕ). length (masks (take m ws))) at ∙ ap length (take-masks n ws l) ∙ length-take-le n (masks ws) l
+pub taken-lines : (n : ℕ) {end : ℕ} → end ≡ n * perSet → (ws t : List ℕ) → n ≤ length (masks ws) → n ≤ width → rightLines rowDigits n t ≡ n
+    → RowLines (length (masks (take end ws))) t
+taken-lines n {end} at ws t l h e = subst (λ (m : ℕ). RowLines m t) (sym (lent-length ws n end at l)) (record { most = h; right = e })
 
-  pub taken-lines : (ws t : List ℕ) → n ≤ length (masks ws) → n ≤ width → rightLines rowDigits n t ≡ n → RowLines (length (masks (take end ws))) t
-  taken-lines ws t l h e = subst (λ (m : ℕ). RowLines m t) (sym (taken-rows ws l)) (record { most = h; right = e })
+module _ (xs ys : List ℕ) {end : ℕ} (e : length xs ≡ end) where
+  pub front-fits : end ≤ length (xs ++ ys)
+  front-fits = omega (arith, length-append xs ys)
 
-  module _ (xs ys : List ℕ) (e : length xs ≡ end) where
-    pub front-fits : end ≤ length (xs ++ ys)
-    front-fits = omega (arith, length-append xs ys)
+  front-rows : take end (xs ++ ys) ≡ xs
+  front-rows = take-at xs ys end e
 
-    front-rows : take end (xs ++ ys) ≡ xs
-    front-rows = take-at xs ys end e
+  pub front-length : end ≡ length (take end (xs ++ ys))
+  front-length = sym (ap length front-rows ∙ e)
 
-    pub front-length : end ≡ length (take end (xs ++ ys))
-    front-length = sym (ap length front-rows ∙ e)
+  pub front-judged : {g : List ℕ} → masks xs ≡ g → firstOf (graphCauses (masks (take end (xs ++ ys)))) passed ≡ firstOf (graphCauses g) passed
+  front-judged h = ap (λ (ms : List ℕ). firstOf (graphCauses ms) passed) (ap masks front-rows ∙ h)
 
-    pub front-judged : {g : List ℕ} → masks xs ≡ g → firstOf (graphCauses (masks (take end (xs ++ ys)))) passed ≡ firstOf (graphCauses g) passed
-    front-judged h = ap (λ (ms : List ℕ). firstOf (graphCauses ms) passed) (ap masks front-rows ∙ h)
-
-    pub front-sized : 1 ≤ n → n ≤ width → Sized (masks (take end (xs ++ ys)))
-    front-sized l h =
-        let long : length (masks (take end (xs ++ ys))) ≡ n = ap (λ (ws : List ℕ). length (masks ws)) front-rows ∙ omega (arith, at, e, count-masks xs) in
-        record { some = omega arith; most = omega arith }
+  pub front-sized : (n : ℕ) → end ≡ n * perSet → 1 ≤ n → n ≤ width → Sized (masks (take end (xs ++ ys)))
+  front-sized n at l h =
+      let long : length (masks (take end (xs ++ ys))) ≡ n = ap (λ (ws : List ℕ). length (masks ws)) front-rows ∙ omega (arith, at, e, count-masks xs) in
+      record { some = omega arith; most = omega arith }
 
 -- a blank table has a row for each vertex
 pub table-fits : (n : ℕ) → n ≤ width → n ≤ length (masks (blank (width * perSet)))

@@ -2,7 +2,7 @@
 use Prim.Native.Nat.{ℕ, _+_, _-_, _*_, _≤_}
 use native.Mathlib.Omega.{arith}
 use mathlib.Core.Path.{_≡_, refl, sym, ap, ap₂, _∙_, subst}
-use mathlib.Core.Bool.{Bool, true, false, not}
+use mathlib.Core.Bool.{Bool, true, false}
 use mathlib.Core.List.{List, [], _++_, append-assoc}
 use lib.Dec.{T}
 use lib.ListN.{length, getD, take, drop, set, length-append, length-drop}
@@ -10,7 +10,6 @@ use lib.Seq.{drop-cons, drop-drop, drop-at, set-at, length-take-le}
 use Rattle.sets.specs.RangeLaws.{true-holds, all-part}
 use Rattle.judging.specs.Request.{Request, request}
 use Rattle.judging.specs.Refusal.{Reply, refused, answered, firstOf, mostVertices, mostSlack, outside, vertexCause, slackCause, floorCause}
-use Rattle.judging.specs.CallLaws.{not-accepted, accepted}
 use Rattle.sheets.specs.Digits.{isDigit, digits, number}
 use Rattle.sheets.specs.Lines.{newline, isLine, field}
 use Rattle.sheets.specs.Sheet.{fieldDigits, headingDigits, headingLength, headingText}
@@ -41,14 +40,6 @@ module _ {at : ℕ} {t : List ℕ} (h : HeadingField at t) where
   pub field-read : {x : ℕ} → x ≡ number (take ((at + fieldDigits) - at) (drop at t)) → x ≡ field at fieldDigits t
   unfolding field
   field-read e = e ∙ ap number (part-same at fieldDigits (drop at t))
-
--- the code read x where the field says y, and b is its test
-module _ (p : ℕ → Bool) {x y : ℕ} {b : Bool} (e : x ≡ y) (tested : b ≡ not (p x)) where
-  pub field-refused : not b ≡ true → p y ≡ true
-  field-refused h = ap p (sym e) ∙ not-accepted b (p x) tested h
-
-  pub field-accepted : not b ≡ false → p y ≡ false
-  field-accepted h = ap p (sym e) ∙ accepted b (p x) tested h
 
 -- ---- the tests of line 1, one after the other
 

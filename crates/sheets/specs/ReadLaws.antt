@@ -9,7 +9,7 @@ use lib.ListN.{length, take, drop}
 use lib.Seq.{length-take-le}
 use Rattle.sets.specs.RangeLaws.{true-holds}
 use Rattle.sets.specs.Words.{perSet, width, masks}
-use Rattle.sets.specs.Words.Masks.{offset-fits, drop-masks, append-masks}
+use Rattle.sets.specs.Words.Masks.{offset-fits, lent-length, back-before}
 use Rattle.judging.specs.Request.{Request, asked}
 use Rattle.judging.specs.Refusal.{Reply, answered, firstOf, mostVertices, vertexCause, slackCause, floorCause}
 use Rattle.judging.specs.Calls.{passed, checkedReply, numberOf, valueOf, refusal}
@@ -31,7 +31,6 @@ use Rattle.sheets.specs.Setting.{HeadingRead}
 use Rattle.sheets.specs.LineLaws.{right-fits, numbers-length}
 use Rattle.sheets.specs.SheetLaws.{passed-line, passed-fields, belowCauses}
 use Rattle.sheets.specs.HeadingLaws.{headingReply}
-use Rattle.sheets.specs.BodyLaws.{taken-rows}
 
 read-refused : {t ms : List ℕ} {f : Refusal} → reading t (length ms) ≡ refusal f → ReadSheet t ms ms (Refused f)
 read-refused {t} {ms} e = record { reply = sym (ap headingOf e); rows = sym (ap (λ (x : Reply Sheet). rowsAfter x ms) e) }
@@ -128,8 +127,8 @@ pub rows-read : {n : ℕ} {request : code.Request} {t : List ℕ} {end : ℕ} �
     → length last ≡ length (take end ws) → masks last ≡ numbers rowDigits (length (masks (take end ws))) (lentBody t)
     → ReadSheet t (masks ws) (masks (last ++ drop end ws)) (Read n request)
 rows-read {n} {t = t} {end = end} h e ws last at l long s =
-    let whole : length last ≡ n * perSet = long ∙ length-take-le end ws (offset-fits n end ws at l) ∙ at in
+    let whole : length last ≡ end = long ∙ length-take-le end ws (offset-fits n end ws at l) in
     let front : masks last ≡ numbers rowDigits n (body t) =
-    s ∙ ap₂ (λ (m : ℕ) (u : List ℕ). numbers rowDigits m u) (taken-rows n at ws l) (part-to-end t headingLength) in
+    s ∙ ap₂ (λ (m : ℕ) (u : List ℕ). numbers rowDigits m u) (lent-length ws n end at l) (part-to-end t headingLength) in
     read-answered (numbers rowDigits n (body t)) (rows-found h e (length (masks ws)) l) (numbers-length rowDigits n (body t))
-    (append-masks n last (drop end ws) whole ∙ ap₂ _++_ front (ap (λ (m : ℕ). masks (drop m ws)) at ∙ drop-masks n ws))
+    (back-before ws n end at last whole ∙ ap (λ (u : List ℕ). u ++ drop n (masks ws)) front)

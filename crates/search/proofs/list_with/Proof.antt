@@ -8,12 +8,11 @@ use denote.Ref.{now}
 use lib.ListN.{length}
 use lib.Seq.{length-front, length-take-le}
 use Rattle.sets.specs.Words.{masks}
-use Rattle.sets.specs.Words.Masks.{offset-fits}
+use Rattle.sets.specs.Words.Masks.{offset-fits, lent-before, back-before}
 use Rattle.judging.specs.Request.{asked}
 use Rattle.judging.specs.Refusal.{firstOf}
 use Rattle.judging.specs.Calls.{passed, checkedReply, requestCheck}
 use Rattle.judging.specs.CallLaws.{none-holds}
-use Rattle.lists.specs.PartLaws.{lent-before, back-before}
 use Rattle.search.specs.CallLaws.{accepted-holds, list-refused, list-length, list-fits, list-short}
 use Rattle.search.proofs.list_with.Statement.{statement}
 use Rattle.search.proofs.list_with.Tie as tie

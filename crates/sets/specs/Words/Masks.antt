@@ -1,14 +1,16 @@
 -- Laws of masks and of lent words that hold sets, at any number of words per set: how many sets, their parts, blank words. No word of a set is looked at.
 use Prim.Native.Nat.{ℕ, _+_, _-_, _*_, _/_, _^_, _≤_, _<_}
+use native.Mathlib.Nat.{le-of-eq}
 use native.Mathlib.Omega.{arith}
 use native.Mathlib.Decide.{decLt}
-use mathlib.Core.Path.{_≡_, refl, sym, ap, _∙_}
+use mathlib.Core.Path.{_≡_, refl, sym, ap, ap₂, _∙_}
 use mathlib.Core.Bool.{Bool, true, false, not, cond}
-use mathlib.Core.List.{List, _++_}
+use mathlib.Core.List.{List, _++_, append-nil}
 use borrow.Author.Tests.{lt-ltb, le-ltb}
 use lib.Dec.{ltb}
 use lib.Pow.{pow-pos}
-use lib.ListN.{length, take, drop, length-take, length-drop, length-append, length-replicate}
+use lib.ListN.{length, take, drop, length-take, length-drop, length-append, length-replicate, drop-of-length-le}
+use lib.Seq.{take-all, length-take-le}
 use Rattle.sets.specs.Set.{minus, without, full}
 use Rattle.sets.specs.SubsetLaws.{minus-none}
 use Rattle.sets.specs.declared.Set.{Set}
@@ -36,28 +38,8 @@ pub count-masks : (ws : List ℕ) → length ws / perSet ≡ length (masks ws)
 unfolding masks
 count-masks ws = sym (length-groups perSet (length ws / perSet) ws)
 
--- ---- parts of lent words
+-- ---- m sets in front of words
 
--- the word at which position n starts lies within the words
-pub offset-fits : (n end : ℕ) (ws : List ℕ) → end ≡ n * perSet → n ≤ length (masks ws) → end ≤ length ws
-offset-fits n end ws e l = omega (arith, e, l, count-masks ws)
-
-pub take-masks : (n : ℕ) (ws : List ℕ) → n ≤ length (masks ws) → masks (take (n * perSet) ws) ≡ take n (masks ws)
-unfolding masks
-take-masks n ws l =
-    let k : n ≤ length ws / perSet = omega (arith, length-groups perSet (length ws / perSet) ws) in
-    let c : n + (length ws / perSet - n) ≡ length ws / perSet = omega arith in
-    let e : length (take (n * perSet) ws) / perSet ≡ n = omega (arith, length-take (n * perSet) ws) in
-    ap (λ (m : ℕ). groups perSet m (take (n * perSet) ws)) e
-    ∙ take-groups perSet n (length ws / perSet - n) ws (omega arith) ∙ ap (λ (m : ℕ). take n (groups perSet m ws)) c
-
-pub drop-masks : (n : ℕ) (ws : List ℕ) → masks (drop (n * perSet) ws) ≡ drop n (masks ws)
-unfolding masks
-drop-masks n ws =
-    let e : length (drop (n * perSet) ws) / perSet ≡ length ws / perSet - n = omega (arith, length-drop (n * perSet) ws) in
-    ap (λ (m : ℕ). groups perSet m (drop (n * perSet) ws)) e ∙ drop-groups perSet n (length ws / perSet) ws
-
--- m sets in front of words
 pub append-masks : (m : ℕ) (vs ws : List ℕ) → length vs ≡ m * perSet → masks (vs ++ ws) ≡ masks vs ++ masks ws
 unfolding masks
 append-masks m vs ws e =
@@ -65,6 +47,46 @@ append-masks m vs ws e =
     let b : m ≡ length vs / perSet = omega (arith, e) in
     ap (λ (k : ℕ). groups perSet k (vs ++ ws)) a ∙ append-groups perSet m (length ws / perSet) vs ws e
     ∙ ap (λ (k : ℕ). groups perSet k vs ++ groups perSet (length ws / perSet) ws) b
+
+-- ---- a part of lent words, up to position n or from it on, and the words when it comes back; the position starts at the word `end`
+
+pub offset-fits : (n end : ℕ) (ws : List ℕ) → end ≡ n * perSet → n ≤ length (masks ws) → end ≤ length ws
+offset-fits n end ws e l = omega (arith, e, l, count-masks ws)
+
+module _ (ws : List ℕ) (n end : ℕ) (e : end ≡ n * perSet) where
+  pub lent-before : n ≤ length (masks ws) → masks (take end ws) ≡ take n (masks ws)
+  unfolding masks
+  lent-before l =
+      let k : n ≤ length ws / perSet = omega (arith, length-groups perSet (length ws / perSet) ws) in
+      let c : n + (length ws / perSet - n) ≡ length ws / perSet = omega arith in
+      let m : length (take end ws) / perSet ≡ n = omega (arith, e, length-take end ws) in
+      ap₂ (λ (i j : ℕ). groups perSet i (take j ws)) m e
+      ∙ take-groups perSet n (length ws / perSet - n) ws (omega arith) ∙ ap (λ (i : ℕ). take n (groups perSet i ws)) c
+
+  pub lent-length : n ≤ length (masks ws) → length (masks (take end ws)) ≡ n
+  lent-length l = ap length (lent-before l) ∙ length-take-le n (masks ws) l
+
+  drop-masks : masks (drop end ws) ≡ drop n (masks ws)
+  unfolding masks
+  drop-masks =
+      let m : length (drop end ws) / perSet ≡ length ws / perSet - n = omega (arith, e, length-drop end ws) in
+      ap₂ (λ (i j : ℕ). groups perSet i (drop j ws)) m e ∙ drop-groups perSet n (length ws / perSet) ws
+
+  pub lent-from : masks (take (length ws - end) (drop end ws)) ≡ drop n (masks ws)
+  lent-from = ap masks (take-all (length ws - end) (drop end ws) (le-of-eq (length-drop end ws))) ∙ drop-masks
+
+  pub back-before : (part : List ℕ) → length part ≡ end → masks (part ++ drop end ws) ≡ masks part ++ drop n (masks ws)
+  back-before part h = append-masks n part (drop end ws) (h ∙ e) ∙ ap (λ (t : List ℕ). masks part ++ t) drop-masks
+
+  pub back-from : (part : List ℕ) → n ≤ length (masks ws)
+      → masks (take end ws ++ (part ++ drop (length ws - end) (drop end ws))) ≡ take n (masks ws) ++ masks part
+  back-from part l =
+      let none = drop-of-length-le (drop end ws) {i = length ws - end} (le-of-eq (length-drop end ws)) in
+      ap (λ (t : List ℕ). masks (take end ws ++ t)) (ap (λ (t : List ℕ). part ++ t) none ∙ append-nil part)
+      ∙ append-masks n (take end ws) part (length-take-le end ws (offset-fits n end ws e l) ∙ e)
+      ∙ ap (λ (t : List ℕ). t ++ masks part) (lent-before l)
+
+-- ---- blank words, and numbers as sets
 
 pub blank-masks : (n : ℕ) → masks (blank (n * perSet)) ≡ blank n
 unfolding masks

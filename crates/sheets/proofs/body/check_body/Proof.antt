@@ -9,10 +9,10 @@ use lib.ListN.{length, drop}
 use lib.Seq.{length-take-le}
 use Rattle.sets.specs.Words.{perSet, width, masks}
 use Rattle.sets.specs.Words.Groups.{blank}
-use Rattle.sets.specs.Words.Masks.{offset-fits}
+use Rattle.sets.specs.Words.Masks.{offset-fits, lent-length}
 use Rattle.sheets.specs.Lines.{numbers}
 use Rattle.sheets.specs.Sheet.{rowDigits}
-use Rattle.sheets.specs.BodyLaws.{line-refused, all-right, after-refused, lines-accepted, table-fits, taken-rows, taken-lines}
+use Rattle.sheets.specs.BodyLaws.{line-refused, all-right, after-refused, lines-accepted, table-fits, taken-lines}
 use Rattle.sheets.specs.BodyLaws.{front-fits, front-length, front-sized, front-judged}
 use Rattle.sheets.proofs.body.check_body.Statement.{statement}
 use Rattle.sheets.proofs.body.check_body.Tie as tie
@@ -90,23 +90,23 @@ stored-long c = c .store-rows .kept .1 .0 ∙ length-take-le (end (lent c)) tabl
 stored-rows : (c : tie.After-store-rows) → masks (stored c) ≡ numbers rowDigits (start (lent c) .args .n) (now (start (lent c) .args .text))
 stored-rows c =
     let a = start (lent c) .args in
-    c .store-rows .ensures ∙ ap (λ (m : ℕ). numbers rowDigits m (now (a .text))) (taken-rows (a .n) (lent c .offset .ensures) table (room (lent c)))
+    c .store-rows .ensures ∙ ap (λ (m : ℕ). numbers rowDigits m (now (a .text))) (lent-length table (a .n) _ (lent c .offset .ensures) (room (lent c)))
 
 array-share-prefix-table : tie.Need-array-share-prefix-table
 array-share-prefix-table c =
     let store = c .before in
-    front-fits (start (lent store) .args .n) (lent store .offset .ensures) (stored store) (behind store) (stored-long store)
+    front-fits (stored store) (behind store) (stored-long store)
 
 slice-aggregate-check-edges : tie.Need-slice-aggregate-check-edges
 slice-aggregate-check-edges c =
     let store = c .before .before in
-    front-length (start (lent store) .args .n) (lent store .offset .ensures) (stored store) (behind store) (stored-long store)
+    front-length (stored store) (behind store) (stored-long store)
 
 check-edges-requires : tie.Need-check-edges-requires
 check-edges-requires c κs =
     let store = c .before .before in
     let s = start (lent store) in
-    front-sized (s .args .n) (lent store .offset .ensures) (stored store) (behind store) (stored-long store) (s .pre .0) (s .pre .1)
+    front-sized (stored store) (behind store) (stored-long store) (s .args .n) (lent store .offset .ensures) (s .pre .0) (s .pre .1)
 
 returns-3 : tie.Need-returns-3
 returns-3 c =
@@ -114,7 +114,7 @@ returns-3 c =
     let at = lent store in
     let a = start at .args in
     c .check-edges .ensures
-    ∙ front-judged (a .n) (at .offset .ensures) (stored store) (behind store) (stored-long store) (stored-rows store)
+    ∙ front-judged (stored store) (behind store) (stored-long store) (stored-rows store)
     ∙ lines-accepted (a .n) (now (a .text)) (at .before .before .before .before .right-rows .ensures) (omega arith) (omega arith)
 
 pub check-body-spec : {M : Type 1} → statement M

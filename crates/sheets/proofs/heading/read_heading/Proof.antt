@@ -1,17 +1,18 @@
 -- The code asks one cause after the other, as the definition does: each test that fails is the first cause that holds, and where none does line 1 is read.
-use Prim.Native.Nat.{ℕ, _*_, _-_}
+use Prim.Native.Nat.{ℕ, _-_}
 use native.Mathlib.Omega.{arith}
-use mathlib.Core.Path.{_≡_, refl, sym, _∙_}
-use mathlib.Core.Bool.{Bool, true, false}
+use mathlib.Core.Path.{_≡_, sym, _∙_}
+use mathlib.Core.Bool.{true, false}
 use mathlib.Core.List.{List}
 use borrow.Author.Needs.{needs}
 use borrow.Author.Tests.{not-true, not-false}
 use denote.Ref.{now}
 use Rattle.judging.specs.Refusal.{outside, mostVertices, mostSlack}
 use Rattle.judging.specs.RefusalLaws.{within-range}
+use Rattle.judging.specs.CallLaws.{not-accepted, accepted}
 use Rattle.sheets.specs.Lines.{isLine}
 use Rattle.sheets.specs.Sheet.{headingDigits, vertexField, slackField}
-use Rattle.sheets.specs.HeadingLaws.{field-refused, field-accepted, heading-refused, vertices-refused, slack-refused, floor-refused, heading-accepted}
+use Rattle.sheets.specs.HeadingLaws.{heading-refused, vertices-refused, slack-refused, floor-refused, heading-accepted}
 use Rattle.sheets.proofs.heading.read_heading.Statement.{statement}
 use Rattle.sheets.proofs.heading.read_heading.Tie as tie
 
@@ -41,7 +42,7 @@ returns-2 : tie.Need-returns-2
 returns-2 c =
     let line = c .before .before .before in
     vertices-refused (text line) (right line)
-    (field-refused (outside 1 mostVertices) (c .before .before .field .ensures) (c .before .vertices-accepted .ensures) (c .if2 .taken))
+    (not-accepted _ _ (rw (c .before .before .field .ensures) at (c .before .vertices-accepted .ensures)) (c .if2 .taken))
 
 -- ---- its n is accepted
 
@@ -49,7 +50,7 @@ abbrev line-of : tie.Else2 → tie.Else1
 line-of c = c .before .before .before
 
 n-in : (c : tie.Else2) → outside 1 mostVertices (vertexField (text (line-of c))) ≡ false
-n-in c = field-accepted (outside 1 mostVertices) (c .before .before .field .ensures) (c .before .vertices-accepted .ensures) (c .if2 .left)
+n-in c = accepted _ _ (rw (c .before .before .field .ensures) at (c .before .vertices-accepted .ensures)) (c .if2 .left)
 
 field-requires-2 : tie.Need-field-requires-2
 field-requires-2 c κs = record { inside = omega arith; right = right (line-of c) }
@@ -61,7 +62,7 @@ returns-3 : tie.Need-returns-3
 returns-3 c =
     let first = c .before .before .before in
     slack-refused (text (line-of first)) (right (line-of first)) (n-in first)
-    (field-refused (outside 1 mostSlack) (c .before .before .field2 .ensures) (c .before .slack-accepted .ensures) (c .if3 .taken))
+    (not-accepted _ _ (rw (c .before .before .field2 .ensures) at (c .before .slack-accepted .ensures)) (c .if3 .taken))
 
 -- ---- its k is accepted
 
@@ -72,7 +73,7 @@ abbrev slack : tie.Else3 → ℕ
 slack c = c .before .before .field2 .result
 
 k-in : (c : tie.Else3) → outside 1 mostSlack (slackField (text (line-of (n-of c)))) ≡ false
-k-in c = field-accepted (outside 1 mostSlack) (c .before .before .field2 .ensures) (c .before .slack-accepted .ensures) (c .if3 .left)
+k-in c = accepted _ _ (rw (c .before .before .field2 .ensures) at (c .before .slack-accepted .ensures)) (c .if3 .left)
 
 field-requires-3 : tie.Need-field-requires-3
 field-requires-3 c κs = record { inside = omega arith; right = right (line-of (n-of c)) }
@@ -80,17 +81,14 @@ field-requires-3 c κs = record { inside = omega arith; right = right (line-of (
 floor-accepted-requires : tie.Need-floor-accepted-requires
 floor-accepted-requires c κs =
     let k = c .before in
-    within-range 1 mostSlack (slack k) (field-accepted (outside 1 mostSlack) refl (k .before .slack-accepted .ensures) (k .if3 .left))
-
-abbrev floor-test : tie.Else3 → ℕ → Bool
-floor-test c = outside (2 * slack c - 1) mostVertices
+    within-range 1 mostSlack (slack k) (accepted _ _ (k .before .slack-accepted .ensures) (k .if3 .left))
 
 returns-4 : tie.Need-returns-4
 returns-4 c =
     let k = c .before .before .before in
     let n = n-of k in
     floor-refused (text (line-of n)) (right (line-of n)) (n-in n) (k-in k) (k .before .before .field2 .ensures)
-    (field-refused (floor-test k) (c .before .before .field3 .ensures) (c .before .floor-accepted .ensures) (c .if4 .taken))
+    (not-accepted _ _ (rw (c .before .before .field3 .ensures) at (c .before .floor-accepted .ensures)) (c .if4 .taken))
 
 returns-5 : tie.Need-returns-5
 returns-5 c =
@@ -98,7 +96,7 @@ returns-5 c =
     let n = n-of k in
     let floor = c .before .before .field3 .ensures in
     heading-accepted (text (line-of n)) (right (line-of n)) (n-in n) (k-in k) (k .before .before .field2 .ensures)
-    (field-accepted (floor-test k) floor (c .before .floor-accepted .ensures) (c .if4 .left)) (n .before .before .field .ensures) floor
+    (accepted _ _ (rw floor at (c .before .floor-accepted .ensures)) (c .if4 .left)) (n .before .before .field .ensures) floor
 
 pub read-heading-spec : {M : Type 1} → statement M
 read-heading-spec =
