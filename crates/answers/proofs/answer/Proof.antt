@@ -19,15 +19,6 @@ use borrow.Author.Needs.{needs}
 use Rattle.answers.proofs.answer.Statement.{statement}
 use Rattle.answers.proofs.answer.Tie as tie
 
-slice-aggregate-read-sheet : tie.Need-slice-aggregate-read-sheet
-slice-aggregate-read-sheet c = search needs
-
-read-sheet-requires : tie.Need-read-sheet-requires
-read-sheet-requires c κs = search needs
-
-enum-known-read : tie.Need-enum-known-read
-enum-known-read c = search needs
-
 -- where a sheet was read: the start, what line 1 said, and the words that hold the rows
 abbrev start : tie.After-known-told → tie.Start
 start c = c .before .before .before .before .before .before .before
@@ -61,9 +52,6 @@ gave c =
       rows = read .rows ∙ ap (λ (m : ℕ). rowsAfter (reading t m) (masks table)) room;
     }
 
-slice-aggregate-offset : tie.Need-slice-aggregate-offset
-slice-aggregate-offset c = search needs
-
 offset-requires : tie.Need-offset-requires
 offset-requires c κs = rows-fit (gave (c .before))
 
@@ -78,9 +66,6 @@ slice-aggregate-list-out c = sym (length-take-le (c .before .offset .result) (wo
 
 list-out-requires : tie.Need-list-out-requires
 list-out-requires c κs = room-fits _ 4096 69649 (c .before .list-out-arg .given .0 .1) (c .list-out-arg2 .given .0 .1) (lit≤ tt) (lit≤ tt)
-
-enum-known-read-2 : tie.Need-enum-known-read-2
-enum-known-read-2 c = search needs
 
 write-refusal-requires : tie.Need-write-refusal-requires
 write-refusal-requires c κs = omega (arith, c .write-refusal-arg .given .0 .1)
@@ -98,5 +83,5 @@ returns-2 c =
 
 pub answer-spec : {M : Type 1} → statement M
 answer-spec =
-    tie.close (tie.spec slice-aggregate-read-sheet read-sheet-requires enum-known-read slice-aggregate-offset offset-requires
-    array-share-prefix-rows slice-aggregate-list-out list-out-requires enum-known-read-2 write-refusal-requires returns returns-2)
+    tie.close (tie.spec (λ c. search needs) (λ c. search needs) (λ c. search needs) (λ c. search needs) offset-requires
+    array-share-prefix-rows slice-aggregate-list-out list-out-requires (λ c. search needs) write-refusal-requires returns returns-2)

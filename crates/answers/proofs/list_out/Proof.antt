@@ -15,12 +15,6 @@ use Rattle.answers.specs.AnswerLaws.{GaveList, listed-fits, listed-few, 
 use Rattle.answers.proofs.list_out.Statement.{statement}
 use Rattle.answers.proofs.list_out.Tie as tie
 
-list-requires : tie.Need-list-requires
-list-requires c κs = search needs
-
-enum-known-found : tie.Need-enum-known-found
-enum-known-found c = search needs
-
 -- where m plexes were listed: the start, m, and the words that hold them
 abbrev start : tie.After-known-told → tie.Start
 start c = c .before .before .before .before .before .before .before .before .before .before
@@ -54,28 +48,10 @@ write-list-requires c κs =
     let at = c .before .before .before .before in
     omega (arith, start at .pre .list, listed-few (gave at) (c .before .before .offset .ensures))
 
-enum-known-found-2 : tie.Need-enum-known-found-2
-enum-known-found-2 c = search needs
-
-write-refusal-requires : tie.Need-write-refusal-requires
-write-refusal-requires c κs = search needs
-
-same-length : tie.Need-same-length
-same-length c = search needs
-
-same-length-2 : tie.Need-same-length-2
-same-length-2 c = search needs
-
 returns : tie.Need-returns
 returns c =
     let at = c .before .before .before .before .before .before .before in
     listed-out (gave at) (c .before .before .before .before .before .offset .ensures) (c .before .before .write-list .ensures)
-
-same-length-3 : tie.Need-same-length-3
-same-length-3 c = search needs
-
-same-length-4 : tie.Need-same-length-4
-same-length-4 c = search needs
 
 returns-2 : tie.Need-returns-2
 returns-2 c =
@@ -84,5 +60,6 @@ returns-2 c =
 
 pub list-out-spec : {M : Type 1} → statement M
 list-out-spec =
-    tie.close (tie.spec list-requires enum-known-found offset-requires slice-reshare-prefix-write-list slice-aggregate-write-list
-    write-list-requires enum-known-found-2 write-refusal-requires same-length same-length-2 returns same-length-3 same-length-4 returns-2)
+    tie.close (tie.spec (λ c. search needs) (λ c. search needs) offset-requires slice-reshare-prefix-write-list slice-aggregate-write-list
+    write-list-requires (λ c. search needs) (λ c. search needs) (λ c. search needs) (λ c. search needs) returns (λ c. search needs)
+    (λ c. search needs) returns-2)

@@ -24,25 +24,13 @@ sub-below c = heading-fits (c .before .before .pre)
 part-below-start : tie.Need-part-below-start
 part-below-start c = heading-fits (c .before .before .pre)
 
-part-below-end : tie.Need-part-below-end
-part-below-end c = search needs
-
 check-body-requires : tie.Need-check-body-requires
 check-body-requires c κs = vertices-read (c .before .before .before .pre)
-
-enum-known-checked : tie.Need-enum-known-checked
-enum-known-checked c = search needs
 
 returns : tie.Need-returns
 returns c =
     let start = c .before .before .before .before .before .before .before in
     body-refused (start .pre) (c .before .checked .given .1) (c .before .before .before .check-body .ensures)
-
-enum-told : tie.Need-enum-told
-enum-told c = search needs
-
-count-requires : tie.Need-count-requires
-count-requires c κs = search needs
 
 -- ---- where it passed: the entry, the text below line 1, and that no cause holds
 
@@ -56,9 +44,6 @@ accepted : (c : tie.After-count) → firstOf (bodyCauses (start c .args .n) (bel
 accepted c =
     let judged = c .before .before .before .before .check-body in
     none-holds (bodyCauses (start c .args .n) (below c)) (judged .result) (judged .ensures) (c .before .before .enum-told .given .1)
-
-same-length : tie.Need-same-length
-same-length c = search needs
 
 returns-2 : tie.Need-returns-2
 returns-2 c = let at = c .before in room-refused (start at .pre) (accepted at) (omega (arith, at .count .ensures))
@@ -94,9 +79,6 @@ store-rows-requires c κs =
     taken-lines n (cut .offset .ensures) (rows (roomy cut)) (below at) (room (roomy cut)) (vertices-read (start at .pre) .1)
     (passed-right n (below at) (accepted at))
 
-same-length-2 : tie.Need-same-length-2
-same-length-2 c = search needs
-
 returns-3 : tie.Need-returns-3
 returns-3 c =
     let store = c .before .before .store-rows in
@@ -107,5 +89,7 @@ returns-3 c =
 
 pub read-rows-spec : {M : Type 1} → statement M
 read-rows-spec =
-    tie.close (tie.spec sub-below part-below-start part-below-end check-body-requires enum-known-checked returns enum-told count-requires
-    same-length returns-2 offset-requires slice-relend-prefix-store-rows slice-aggregate-store-rows store-rows-requires same-length-2 returns-3)
+    tie.close (tie.spec sub-below part-below-start (λ c. search needs) check-body-requires (λ c. search needs) returns (λ c. search needs)
+    (λ c. search needs)
+    (λ c. search needs) returns-2 offset-requires slice-relend-prefix-store-rows slice-aggregate-store-rows store-rows-requires (λ c. search needs)
+    returns-3)

@@ -16,20 +16,8 @@ use Rattle.sheets.specs.WriteLaws.{write-refused, graph-fits, text-refus
 use Rattle.sheets.proofs.write_sheet.Statement.{statement}
 use Rattle.sheets.proofs.write_sheet.Tie as tie
 
-check-request-requires : tie.Need-check-request-requires
-check-request-requires c κs = search needs
-
-enum-known-checked : tie.Need-enum-known-checked
-enum-known-checked c = search needs
-
 returns : tie.Need-returns
 returns c = write-refused (c .before .checked .given .1) (c .before .before .before .check-request .ensures)
-
-enum-told : tie.Need-enum-told
-enum-told c = search needs
-
-count-requires : tie.Need-count-requires
-count-requires c κs = search needs
 
 -- ---- where the request passed: the graph, what is asked, and that no cause holds
 
@@ -56,26 +44,11 @@ add-needed c = omega (arith, graph-fits (graph c) (ask c) (accepted c))
 returns-2 : tie.Need-returns-2
 returns-2 c = let at = c .before in text-refused (graph at) (ask at) (accepted at) (at .count .ensures) (c .if1 .taken)
 
-write-heading-requires : tie.Need-write-heading-requires
-write-heading-requires c κs = search needs
-
-sub-write-rows : tie.Need-sub-write-rows
-sub-write-rows c = search needs
-
-part-write-rows-start : tie.Need-part-write-rows-start
-part-write-rows-start c = search needs
-
-part-write-rows-end : tie.Need-part-write-rows-end
-part-write-rows-end c = search needs
-
 write-rows-requires : tie.Need-write-rows-requires
 write-rows-requires c κs =
     let at = c .before .before .before .before .before .before in
     let first = c .before .before .before .write-heading in
     below-fits (length (graph at) * rowLength) (first .last .0) (omega (arith, first .kept .0, at .count .ensures))
-
-same-length : tie.Need-same-length
-same-length c = search needs
 
 returns-3 : tie.Need-returns-3
 returns-3 c =
@@ -86,5 +59,5 @@ returns-3 c =
 
 pub write-sheet-spec : {M : Type 1} → statement M
 write-sheet-spec =
-    tie.close (tie.spec check-request-requires enum-known-checked returns enum-told count-requires mul-needed add-needed returns-2
-    write-heading-requires sub-write-rows part-write-rows-start part-write-rows-end write-rows-requires same-length returns-3)
+    tie.close (tie.spec (λ c. search needs) (λ c. search needs) returns (λ c. search needs) (λ c. search needs) mul-needed add-needed returns-2
+    (λ c. search needs) (λ c. search needs) (λ c. search needs) (λ c. search needs) write-rows-requires (λ c. search needs) returns-3)

@@ -10,38 +10,11 @@ use borrow.Author.Needs.{needs}
 use Rattle.answers.proofs.output.write_list.Statement.{statement}
 use Rattle.answers.proofs.output.write_list.Tie as tie
 
-count-requires : tie.Need-count-requires
-count-requires c κs = search needs
-
-slice-relend-prefix-write-line : tie.Need-slice-relend-prefix-write-line
-slice-relend-prefix-write-line c = search needs
-
 slice-aggregate-write-line : tie.Need-slice-aggregate-write-line
 slice-aggregate-write-line c = sym (length-take-le rowLength (now (c .before .before .before .before .args .out)) (omega arith))
 
 write-line-requires : tie.Need-write-line-requires
 write-line-requires c κs = omega (arith, length-take-le rowLength (now (c .before .before .before .before .args .out)) (omega arith))
-
-sub-write-rows : tie.Need-sub-write-rows
-sub-write-rows c = search needs
-
-part-write-rows-start : tie.Need-part-write-rows-start
-part-write-rows-start c = search needs
-
-part-write-rows-end : tie.Need-part-write-rows-end
-part-write-rows-end c = search needs
-
-write-rows-requires : tie.Need-write-rows-requires
-write-rows-requires c κs = search needs
-
-add-result : tie.Need-add-result
-add-result c = search needs
-
-mul-result : tie.Need-mul-result
-mul-result c = search needs
-
-same-length : tie.Need-same-length
-same-length c = search needs
 
 returns : tie.Need-returns
 returns c =
@@ -52,5 +25,5 @@ returns c =
 
 pub write-list-spec : {M : Type 1} → statement M
 write-list-spec =
-    tie.close (tie.spec count-requires slice-relend-prefix-write-line slice-aggregate-write-line write-line-requires sub-write-rows
-    part-write-rows-start part-write-rows-end write-rows-requires add-result mul-result same-length returns)
+    tie.close (tie.spec (λ c. search needs) (λ c. search needs) slice-aggregate-write-line write-line-requires (λ c. search needs)
+    (λ c. search needs) (λ c. search needs) (λ c. search needs) (λ c. search needs) (λ c. search needs) (λ c. search needs) returns)

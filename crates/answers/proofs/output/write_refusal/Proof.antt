@@ -8,41 +8,14 @@ use borrow.Author.Needs.{needs}
 use Rattle.answers.proofs.output.write_refusal.Statement.{statement}
 use Rattle.answers.proofs.output.write_refusal.Tie as tie
 
-number-requires : tie.Need-number-requires
-number-requires c κs = search needs
-
-slice-write-out : tie.Need-slice-write-out
-slice-write-out c = search needs
-
-decimal-requires : tie.Need-decimal-requires
-decimal-requires c κs = search needs
-
 slice-write-out-2 : tie.Need-slice-write-out-2
 slice-write-out-2 c = simp length-set (omega arith)
-
-decimal-requires-2 : tie.Need-decimal-requires-2
-decimal-requires-2 c κs = search needs
 
 slice-write-out-3 : tie.Need-slice-write-out-3
 slice-write-out-3 c = simp length-set (omega arith)
 
 slice-write-out-4 : tie.Need-slice-write-out-4
 slice-write-out-4 c = simp length-set (omega arith)
-
-sub-write-line : tie.Need-sub-write-line
-sub-write-line c = search needs
-
-part-write-line-start : tie.Need-part-write-line-start
-part-write-line-start c = search needs
-
-part-write-line-end : tie.Need-part-write-line-end
-part-write-line-end c = search needs
-
-value-requires : tie.Need-value-requires
-value-requires c κs = search needs
-
-write-line-requires : tie.Need-write-line-requires
-write-line-requires c κs = search needs
 
 abbrev start : tie.After-slice-known2 → tie.Start
 start c = c .before .before .before .before .before .before .before .before .before
@@ -66,5 +39,6 @@ returns c = written c
 
 pub write-refusal-spec : {M : Type 1} → statement M
 write-refusal-spec =
-    tie.close (tie.spec number-requires slice-write-out decimal-requires slice-write-out-2 decimal-requires-2 slice-write-out-3 slice-write-out-4
-    sub-write-line part-write-line-start part-write-line-end value-requires write-line-requires same-length returns)
+    tie.close (tie.spec (λ c. search needs) (λ c. search needs) (λ c. search needs) slice-write-out-2 (λ c. search needs) slice-write-out-3
+    slice-write-out-4
+    (λ c. search needs) (λ c. search needs) (λ c. search needs) (λ c. search needs) (λ c. search needs) same-length returns)

@@ -24,9 +24,6 @@ turn c = c .before .before .before
 loop-holds : tie.Need-loop-holds Inv-loop μ-loop
 loop-holds c = subst (Walked _ _) (sym (c .before .pre)) (walk-none)
 
-is-empty-requires : tie.Need-is-empty-requires Inv-loop μ-loop
-is-empty-requires c κs = tt
-
 lowest-requires : tie.Need-lowest-requires Inv-loop μ-loop
 lowest-requires c κs = walk-goes-on (c .before .is-empty .ensures) (c .if1 .taken)
 
@@ -53,4 +50,4 @@ returns-2 c = extendable-by-none _ _ _ (c .before .before .loop .inv) (walk-over
 pub is-extendable-spec : {M : Type 1} → statement M
 is-extendable-spec =
     tie.close
-    (tie.spec Inv-loop μ-loop loop-holds is-empty-requires lowest-requires missing-requires returns rest-requires loop-less loop-again returns-2)
+    (tie.spec Inv-loop μ-loop loop-holds (λ c κs. tt) lowest-requires missing-requires returns rest-requires loop-less loop-again returns-2)

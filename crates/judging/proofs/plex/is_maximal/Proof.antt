@@ -9,17 +9,8 @@ use borrow.Author.Needs.{needs}
 use Rattle.judging.proofs.plex.is_maximal.Statement.{statement}
 use Rattle.judging.proofs.plex.is_maximal.Tie as tie
 
-is-plex-requires : tie.Need-is-plex-requires
-is-plex-requires c κs = search needs
-
 returns : tie.Need-returns
 returns c = no-plex _ _ _ (sym (c .before .is-plex .ensures) ∙ not-true _ (c .if1 .taken))
-
-unblocked-requires : tie.Need-unblocked-requires
-unblocked-requires c κs = search needs
-
-is-extendable-requires : tie.Need-is-extendable-requires
-is-extendable-requires c κs = search needs
 
 returns-2 : tie.Need-returns-2
 returns-2 c =
@@ -32,4 +23,4 @@ returns-2 c =
 pub is-maximal-spec : {M : Type 1} → statement M
 is-maximal-spec =
     tie.close
-    (tie.spec is-plex-requires returns unblocked-requires is-extendable-requires returns-2)
+    (tie.spec (λ c. search needs) returns (λ c. search needs) (λ c. search needs) returns-2)

@@ -26,9 +26,6 @@ within c = turn c .before .before .pre
 loop-holds : tie.Need-loop-holds Inv-loop μ-loop
 loop-holds c = walk-none
 
-is-empty-requires : tie.Need-is-empty-requires Inv-loop μ-loop
-is-empty-requires c κs = tt
-
 lowest-requires : tie.Need-lowest-requires Inv-loop μ-loop
 lowest-requires c κs = walk-goes-on (c .before .is-empty .ensures) (c .if1 .taken)
 
@@ -57,4 +54,4 @@ returns-2 c =
 pub is-plex-spec : {M : Type 1} → statement M
 is-plex-spec =
     tie.close
-    (tie.spec Inv-loop μ-loop loop-holds is-empty-requires lowest-requires missing-requires returns rest-requires loop-less loop-again returns-2)
+    (tie.spec Inv-loop μ-loop loop-holds (λ c κs. tt) lowest-requires missing-requires returns rest-requires loop-less loop-again returns-2)

@@ -6,15 +6,6 @@ use borrow.Author.Needs.{needs}
 use Rattle.judging.proofs.plex.missing.Statement.{statement}
 use Rattle.judging.proofs.plex.missing.Tie as tie
 
-get-requires : tie.Need-get-requires
-get-requires c κs = search needs
-
-minus-requires : tie.Need-minus-requires
-minus-requires c κs = search needs
-
-size-requires : tie.Need-size-requires
-size-requires c κs = search needs
-
 returns : tie.Need-returns
 unfolding missing
 returns c =
@@ -22,4 +13,4 @@ returns c =
     (c .size .ensures .0 ∙ ap size rest, c .size .ensures .1)
 
 pub missing-spec : {M : Type 1} → statement M
-missing-spec = tie.close (tie.spec get-requires minus-requires size-requires returns)
+missing-spec = tie.close (tie.spec (λ c. search needs) (λ c. search needs) (λ c. search needs) returns)

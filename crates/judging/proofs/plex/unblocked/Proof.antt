@@ -27,22 +27,13 @@ turn c = c .before .before .before
 falls : (c : tie.After-rest Inv-loop μ-loop) → mask (c .rest .result) < mask (turn (c .before) .loop .left)
 falls c = walk-falls (c .before .lowest .ensures) (c .rest .ensures)
 
-count-requires : tie.Need-count-requires Inv-loop μ-loop
-count-requires c κs = tt
-
 full-requires : tie.Need-full-requires Inv-loop μ-loop
 full-requires c κs = (omega arith, omega arith)
-
-minus-requires : tie.Need-minus-requires Inv-loop μ-loop
-minus-requires c κs = tt
 
 loop-holds : tie.Need-loop-holds Inv-loop μ-loop
 loop-holds c =
     let counted = c .before .before in
     rw (c .minus .ensures, c .before .full .ensures, counted .count .ensures) (narrowed-none (counted .before .before .pre .below))
-
-is-empty-requires : tie.Need-is-empty-requires Inv-loop μ-loop
-is-empty-requires c κs = tt
 
 lowest-requires : tie.Need-lowest-requires Inv-loop μ-loop
 lowest-requires c κs = walk-goes-on (c .before .is-empty .ensures) (c .if1 .taken)
@@ -57,9 +48,6 @@ get-requires : tie.Need-get-requires Inv-loop μ-loop
 get-requires c κs =
     let at = c .before .before .before in
     narrowed-vertex (turn at .loop .inv) (at .lowest .ensures)
-
-meet-requires : tie.Need-meet-requires Inv-loop μ-loop
-meet-requires c κs = tt
 
 loop-less : tie.Need-loop-less Inv-loop μ-loop
 loop-less c = falls (c .before .before .before .before)
@@ -86,5 +74,5 @@ returns c = narrowed-unblocked (walk-over (c .before .is-empty .ensures) (c .if1
 pub unblocked-spec : {M : Type 1} → statement M
 unblocked-spec =
     tie.close
-    (tie.spec Inv-loop μ-loop count-requires full-requires minus-requires loop-holds is-empty-requires lowest-requires rest-requires missing-requires
-    get-requires meet-requires loop-less loop-again loop-less-2 loop-again-2 returns)
+    (tie.spec Inv-loop μ-loop (λ c κs. tt) full-requires (λ c κs. tt) loop-holds (λ c κs. tt) lowest-requires rest-requires missing-requires
+    get-requires (λ c κs. tt) loop-less loop-again loop-less-2 loop-again-2 returns)

@@ -17,20 +17,8 @@ use Rattle.sheets.specs.BodyLaws.{front-fits, front-length, front-sized,
 use Rattle.sheets.proofs.body.check_body.Statement.{statement}
 use Rattle.sheets.proofs.body.check_body.Tie as tie
 
-right-rows-requires : tie.Need-right-rows-requires
-right-rows-requires c κs = search needs
-
-add-t7 : tie.Need-add-t7
-add-t7 c = search needs
-
 returns : tie.Need-returns
 returns c = let a = c .before .before .before .args in line-refused (a .n) (now (a .text)) (c .before .right-rows .ensures) (omega arith)
-
-mul-if2 : tie.Need-mul-if2
-mul-if2 c = search needs
-
-add-t11 : tie.Need-add-t11
-add-t11 c = search needs
 
 returns-2 : tie.Need-returns-2
 returns-2 c =
@@ -40,9 +28,6 @@ returns-2 c =
 -- the table before a row is stored
 abbrev table : List ℕ
 table = blank (width * perSet)
-
-slice-aggregate-offset : tie.Need-slice-aggregate-offset
-slice-aggregate-offset c = search needs
 
 offset-requires : tie.Need-offset-requires
 offset-requires c κs = let s = c .before .before .before .before .before in table-fits (s .args .n) (s .pre .1)
@@ -119,6 +104,7 @@ returns-3 c =
 
 pub check-body-spec : {M : Type 1} → statement M
 check-body-spec =
-    tie.close (tie.spec right-rows-requires add-t7 returns mul-if2 add-t11 returns-2 slice-aggregate-offset offset-requires
+    tie.close (tie.spec (λ c. search needs) (λ c. search needs) returns (λ c. search needs) (λ c. search needs) returns-2 (λ c. search needs)
+    offset-requires
     array-borrow-prefix-table slice-aggregate-store-rows store-rows-requires array-share-prefix-table slice-aggregate-check-edges
     check-edges-requires returns-3)

@@ -4,14 +4,8 @@ use borrow.Author.Needs.{needs}
 use Rattle.sheets.proofs.body.read_row.Statement.{statement}
 use Rattle.sheets.proofs.body.read_row.Tie as tie
 
-number-requires : tie.Need-number-requires
-number-requires c κs = search needs
-
-of-word-requires : tie.Need-of-word-requires
-of-word-requires c κs = search needs
-
 returns : tie.Need-returns
 returns c = c .of-word .ensures ∙ c .before .number .ensures
 
 pub read-row-spec : {M : Type 1} → statement M
-read-row-spec = tie.close (tie.spec number-requires of-word-requires returns)
+read-row-spec = tie.close (tie.spec (λ c. search needs) (λ c. search needs) returns)

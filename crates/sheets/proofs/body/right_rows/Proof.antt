@@ -17,22 +17,10 @@ abbrev μ-loop : tie.MeasureT-loop
 loop-holds : tie.Need-loop-holds Inv-loop μ-loop
 loop-holds c = walking-none
 
-mul-is-line : tie.Need-mul-is-line Inv-loop μ-loop
-mul-is-line c = omega arith
-
-is-line-requires : tie.Need-is-line-requires Inv-loop μ-loop
-is-line-requires c κs = omega arith
-
 returns : tie.Need-returns Inv-loop μ-loop
 returns c =
     let test = c .before .is-line in
     walking-stop (c .before .before .before .loop .inv) (omega arith) (sym (test .ensures) ∙ not-true (test .result) (c .if1 .taken))
-
-add-a : tie.Need-add-a Inv-loop μ-loop
-add-a c = omega arith
-
-loop-less : tie.Need-loop-less Inv-loop μ-loop
-loop-less c = omega arith
 
 loop-again : tie.Need-loop-again Inv-loop μ-loop
 loop-again c =
@@ -43,4 +31,5 @@ returns-2 : tie.Need-returns-2 Inv-loop μ-loop
 returns-2 c = walking-all (c .before .loop .inv) (omega arith)
 
 pub right-rows-spec : {M : Type 1} → statement M
-right-rows-spec = tie.close (tie.spec Inv-loop μ-loop loop-holds mul-is-line is-line-requires returns add-a loop-less loop-again returns-2)
+right-rows-spec = tie.close (tie.spec Inv-loop μ-loop loop-holds (λ c. omega arith) (λ c κs. omega arith) returns (λ c. omega arith)
+    (λ c. omega arith) loop-again returns-2)

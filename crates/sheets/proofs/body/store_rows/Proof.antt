@@ -18,23 +18,8 @@ Inv-loop text rows₀ n a₀ rows a = (n ≡ length (masks rows₀)) × (length 
 abbrev μ-loop : tie.MeasureT-loop
 μ-loop text rows₀ n a₀ rows a = n - a
 
-count-requires : tie.Need-count-requires Inv-loop μ-loop
-count-requires c κs = tt
-
 loop-holds : tie.Need-loop-holds Inv-loop μ-loop
 loop-holds c = (c .count .ensures, refl, storing-none)
-
-mul-at : tie.Need-mul-at Inv-loop μ-loop
-mul-at c = omega arith
-
-add-end : tie.Need-add-end Inv-loop μ-loop
-add-end c = omega arith
-
-sub-read-row : tie.Need-sub-read-row Inv-loop μ-loop
-sub-read-row c = omega arith
-
-part-read-row-start : tie.Need-part-read-row-start Inv-loop μ-loop
-part-read-row-start c = omega arith
 
 part-read-row-end : tie.Need-part-read-row-end Inv-loop μ-loop
 part-read-row-end c =
@@ -51,12 +36,6 @@ put-requires c κs =
     let start = c .before .before .before .before .before .before .before .before .before in
     omega (arith, count-masks (now (start .args .rows)), count-masks (c .before .before .before .before .loop .rows))
 
-add-a : tie.Need-add-a Inv-loop μ-loop
-add-a c = omega arith
-
-loop-less : tie.Need-loop-less Inv-loop μ-loop
-loop-less c = omega arith
-
 loop-again : tie.Need-loop-again Inv-loop μ-loop
 loop-again c =
     let turn = c .before .before .before .before .before .before .before .loop in
@@ -72,5 +51,6 @@ returns c = storing-all (c .before .loop .inv .2) (omega arith)
 
 pub store-rows-spec : {M : Type 1} → statement M
 store-rows-spec =
-    tie.close (tie.spec Inv-loop μ-loop count-requires loop-holds mul-at add-end sub-read-row part-read-row-start part-read-row-end
-    read-row-requires put-requires add-a loop-less loop-again same-length returns)
+    tie.close (tie.spec Inv-loop μ-loop (λ c κs. tt) loop-holds (λ c. omega arith) (λ c. omega arith) (λ c. omega arith) (λ c. omega arith)
+    part-read-row-end
+    read-row-requires put-requires (λ c. omega arith) (λ c. omega arith) loop-again same-length returns)

@@ -15,20 +15,8 @@ abbrev μ-loop : tie.MeasureT-loop
 loop-holds : tie.Need-loop-holds Inv-loop μ-loop
 loop-holds c = passing-none
 
-shared-slice-read-value : tie.Need-shared-slice-read-value Inv-loop μ-loop
-shared-slice-read-value c = omega arith
-
-value-requires : tie.Need-value-requires Inv-loop μ-loop
-value-requires c κs = tt
-
 returns : tie.Need-returns Inv-loop μ-loop
 returns c = let turn = c .before .before .before .before .loop in passing-stop (turn .inv) (omega arith) (omega (arith, c .before .value .ensures))
-
-add-i : tie.Need-add-i Inv-loop μ-loop
-add-i c = omega arith
-
-loop-less : tie.Need-loop-less Inv-loop μ-loop
-loop-less c = omega arith
 
 loop-again : tie.Need-loop-again Inv-loop μ-loop
 loop-again c = let turn = c .before .before .before .before .loop in passing-more (turn .inv) (omega arith) (omega (arith, c .before .value .ensures))
@@ -37,4 +25,5 @@ returns-2 : tie.Need-returns-2 Inv-loop μ-loop
 returns-2 c = passing-all (c .before .loop .inv) (omega arith)
 
 pub are-digits-spec : {M : Type 1} → statement M
-are-digits-spec = tie.close (tie.spec Inv-loop μ-loop loop-holds shared-slice-read-value value-requires returns add-i loop-less loop-again returns-2)
+are-digits-spec = tie.close (tie.spec Inv-loop μ-loop loop-holds (λ c. omega arith) (λ c κs. tt) returns (λ c. omega arith) (λ c. omega arith)
+    loop-again returns-2)

@@ -5,18 +5,6 @@ use borrow.Author.Needs.{needs}
 use Rattle.sheets.proofs.digits.byte.Statement.{statement}
 use Rattle.sheets.proofs.digits.byte.Tie as tie
 
-add-result : tie.Need-add-result
-add-result c = search needs
-
-cast-result : tie.Need-cast-result
-cast-result c = search needs
-
-add-result-2 : tie.Need-add-result-2
-add-result-2 c = search needs
-
-cast-result-2 : tie.Need-cast-result-2
-cast-result-2 c = search needs
-
 returns : tie.Need-returns
 returns c = sym (byte-figure (c .before .args .d) (c .if1 .taken))
 
@@ -24,4 +12,4 @@ returns-2 : tie.Need-returns-2
 returns-2 c = sym (byte-letter (c .before .args .d) (c .if1 .left))
 
 pub byte-spec : {M : Type 1} → statement M
-byte-spec = tie.close (tie.spec add-result cast-result add-result-2 cast-result-2 returns returns-2)
+byte-spec = tie.close (tie.spec (λ c. search needs) (λ c. search needs) (λ c. search needs) (λ c. search needs) returns returns-2)

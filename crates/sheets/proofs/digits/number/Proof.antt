@@ -18,23 +18,11 @@ loop-holds c = numbering-none
 mul-x : tie.Need-mul-x Inv-loop μ-loop
 mul-x c = omega (arith, numbering-fits (c .before .before .before .pre) (c .before .loop .inv) (omega arith))
 
-shared-slice-read-value : tie.Need-shared-slice-read-value Inv-loop μ-loop
-shared-slice-read-value c = omega arith
-
-value-requires : tie.Need-value-requires Inv-loop μ-loop
-value-requires c κs = tt
-
 add-x : tie.Need-add-x Inv-loop μ-loop
 add-x c =
     let pre = c .before .before .before .before .before .pre in
     let turn = c .before .before .before .loop in
     omega (arith, numbering-fits pre (turn .inv) (omega arith), digit-low pre (turn .inv) (omega arith), c .value .ensures)
-
-add-i : tie.Need-add-i Inv-loop μ-loop
-add-i c = omega arith
-
-loop-less : tie.Need-loop-less Inv-loop μ-loop
-loop-less c = omega arith
 
 loop-again : tie.Need-loop-again Inv-loop μ-loop
 loop-again c = numbering-more (c .before .before .before .before .before .pre) (c .before .before .before .loop .inv) (omega arith) (c .value .ensures)
@@ -43,4 +31,5 @@ returns : tie.Need-returns Inv-loop μ-loop
 returns c = numbering-all (c .before .loop .inv) (omega arith)
 
 pub number-spec : {M : Type 1} → statement M
-number-spec = tie.close (tie.spec Inv-loop μ-loop loop-holds mul-x shared-slice-read-value value-requires add-x add-i loop-less loop-again returns)
+number-spec = tie.close (tie.spec Inv-loop μ-loop loop-holds mul-x (λ c. omega arith) (λ c κs. tt) add-x (λ c. omega arith) (λ c. omega arith)
+    loop-again returns)

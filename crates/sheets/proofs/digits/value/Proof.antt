@@ -6,15 +6,6 @@ use borrow.Author.Needs.{needs}
 use Rattle.sheets.proofs.digits.value.Statement.{statement}
 use Rattle.sheets.proofs.digits.value.Tie as tie
 
-cast-result : tie.Need-cast-result
-cast-result c = search needs
-
-sub-result : tie.Need-sub-result
-sub-result c = search needs
-
-cast-result-2 : tie.Need-cast-result-2
-cast-result-2 c = search needs
-
 returns : tie.Need-returns
 returns c = sym (value-figure (c .before .before .args .b) (omega arith) (omega arith))
 
@@ -31,4 +22,4 @@ returns-5 : tie.Need-returns-5
 returns-5 c = sym (value-above (c .before .before .before .before .args .b) (omega arith))
 
 pub value-spec : {M : Type 1} → statement M
-value-spec = tie.close (tie.spec cast-result sub-result cast-result-2 returns returns-2 returns-3 returns-4 returns-5)
+value-spec = tie.close (tie.spec (λ c. search needs) (λ c. search needs) (λ c. search needs) returns returns-2 returns-3 returns-4 returns-5)

@@ -4,15 +4,6 @@ use borrow.Author.Needs.{needs}
 use Rattle.sheets.proofs.heading.field.Statement.{statement}
 use Rattle.sheets.proofs.heading.field.Tie as tie
 
-add-end : tie.Need-add-end
-add-end c = search needs
-
-sub-number : tie.Need-sub-number
-sub-number c = search needs
-
-part-number-start : tie.Need-part-number-start
-part-number-start c = search needs
-
 part-number-end : tie.Need-part-number-end
 part-number-end c = field-fits (c .before .pre)
 
@@ -23,4 +14,4 @@ returns : tie.Need-returns
 returns c = field-read (c .before .before .before .pre) (c .number .ensures)
 
 pub field-spec : {M : Type 1} → statement M
-field-spec = tie.close (tie.spec add-end sub-number part-number-start part-number-end number-requires returns)
+field-spec = tie.close (tie.spec (λ c. search needs) (λ c. search needs) (λ c. search needs) part-number-end number-requires returns)

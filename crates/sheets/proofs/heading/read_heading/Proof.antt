@@ -16,9 +16,6 @@ use Rattle.sheets.specs.HeadingLaws.{heading-refused, vertices-refused, 
 use Rattle.sheets.proofs.heading.read_heading.Statement.{statement}
 use Rattle.sheets.proofs.heading.read_heading.Tie as tie
 
-is-line-requires : tie.Need-is-line-requires
-is-line-requires c κs = search needs
-
 returns : tie.Need-returns
 returns c =
     let test = c .before .is-line in
@@ -34,9 +31,6 @@ right c = let test = c .before .is-line in sym (test .ensures) ∙ not-false (te
 
 field-requires : tie.Need-field-requires
 field-requires c κs = record { inside = omega arith; right = right c }
-
-vertices-accepted-requires : tie.Need-vertices-accepted-requires
-vertices-accepted-requires c κs = search needs
 
 returns-2 : tie.Need-returns-2
 returns-2 c =
@@ -54,9 +48,6 @@ n-in c = accepted _ _ (rw (c .before .before .field .ensures) at (c .before .ver
 
 field-requires-2 : tie.Need-field-requires-2
 field-requires-2 c κs = record { inside = omega arith; right = right (line-of c) }
-
-slack-accepted-requires : tie.Need-slack-accepted-requires
-slack-accepted-requires c κs = search needs
 
 returns-3 : tie.Need-returns-3
 returns-3 c =
@@ -100,5 +91,5 @@ returns-5 c =
 
 pub read-heading-spec : {M : Type 1} → statement M
 read-heading-spec =
-    tie.close (tie.spec is-line-requires returns field-requires vertices-accepted-requires returns-2 field-requires-2 slack-accepted-requires
+    tie.close (tie.spec (λ c. search needs) returns field-requires (λ c. search needs) returns-2 field-requires-2 (λ c. search needs)
     returns-3 field-requires-3 floor-accepted-requires returns-4 returns-5)

@@ -10,23 +10,8 @@ use borrow.Author.Needs.{needs}
 use Rattle.sheets.proofs.lines.write_line.Statement.{statement}
 use Rattle.sheets.proofs.lines.write_line.Tie as tie
 
-sub-end : tie.Need-sub-end
-sub-end c = search needs
-
-slice-relend-prefix-write : tie.Need-slice-relend-prefix-write
-slice-relend-prefix-write c = search needs
-
 slice-aggregate-write : tie.Need-slice-aggregate-write
 slice-aggregate-write c = let t = now (c .before .before .args .text) in sym (length-take-le (length t - 1) t (omega arith))
-
-write-requires : tie.Need-write-requires
-write-requires c κs = search needs
-
-slice-write-text : tie.Need-slice-write-text
-slice-write-text c = search needs
-
-same-length : tie.Need-same-length
-same-length c = search needs
 
 returns : tie.Need-returns
 returns c =
@@ -34,4 +19,5 @@ returns c =
     line-filled (length (now (a .text)) - 1) (a .x) (now (a .text)) (c .before .before .write .last .0) (omega arith) (c .before .before .write .ensures)
 
 pub write-line-spec : {M : Type 1} → statement M
-write-line-spec = tie.close (tie.spec sub-end slice-relend-prefix-write slice-aggregate-write write-requires slice-write-text same-length returns)
+write-line-spec = tie.close (tie.spec (λ c. search needs) (λ c. search needs) slice-aggregate-write (λ c. search needs) (λ c. search needs)
+    (λ c. search needs) returns)

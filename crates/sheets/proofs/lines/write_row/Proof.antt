@@ -10,15 +10,6 @@ use borrow.Author.Needs.{needs}
 use Rattle.sheets.proofs.lines.write_row.Statement.{statement}
 use Rattle.sheets.proofs.lines.write_row.Tie as tie
 
-word-requires : tie.Need-word-requires
-word-requires c κs = search needs
-
-write-line-requires : tie.Need-write-line-requires
-write-line-requires c κs = search needs
-
-same-length : tie.Need-same-length
-same-length c = search needs
-
 returns : tie.Need-returns
 returns c =
     let a = c .before .before .before .before .before .before .args in
@@ -26,4 +17,4 @@ returns c =
     ∙ ap (λ (x : ℕ). line (digits (length (now (a .text)) - 1) x)) (c .before .before .before .word .ensures ∙ word-mask (a .s))
 
 pub write-row-spec : {M : Type 1} → statement M
-write-row-spec = tie.close (tie.spec word-requires write-line-requires same-length returns)
+write-row-spec = tie.close (tie.spec (λ c. search needs) (λ c. search needs) (λ c. search needs) returns)

@@ -16,40 +16,13 @@ Inv-loop rows text₀ n a₀ text a = (n ≡ length (masks rows)) × Writing row
 abbrev μ-loop : tie.MeasureT-loop
 μ-loop rows text₀ n a₀ text a = n - a
 
-count-requires : tie.Need-count-requires Inv-loop μ-loop
-count-requires c κs = tt
-
 loop-holds : tie.Need-loop-holds Inv-loop μ-loop
 loop-holds c = (c .count .ensures, writing-none)
-
-mul-at : tie.Need-mul-at Inv-loop μ-loop
-mul-at c = omega arith
-
-add-end : tie.Need-add-end Inv-loop μ-loop
-add-end c = omega arith
-
-sub-write-row : tie.Need-sub-write-row Inv-loop μ-loop
-sub-write-row c = omega arith
-
-part-write-row-start : tie.Need-part-write-row-start Inv-loop μ-loop
-part-write-row-start c = omega arith
-
-part-write-row-end : tie.Need-part-write-row-end Inv-loop μ-loop
-part-write-row-end c = omega arith
-
-get-requires : tie.Need-get-requires Inv-loop μ-loop
-get-requires c κs = omega arith
 
 write-row-requires : tie.Need-write-row-requires Inv-loop μ-loop
 write-row-requires c κs =
     let turn = c .before .before .before .loop in
     omega (arith, part-length (turn .a * rowLength) rowLength (turn .text) (omega arith))
-
-add-a : tie.Need-add-a Inv-loop μ-loop
-add-a c = omega arith
-
-loop-less : tie.Need-loop-less Inv-loop μ-loop
-loop-less c = omega arith
 
 loop-again : tie.Need-loop-again Inv-loop μ-loop
 unfolding row
@@ -67,5 +40,6 @@ returns c = writing-all (c .before .loop .inv .1) (omega arith)
 
 pub write-rows-spec : {M : Type 1} → statement M
 write-rows-spec =
-    tie.close (tie.spec Inv-loop μ-loop count-requires loop-holds mul-at add-end sub-write-row part-write-row-start part-write-row-end get-requires
-    write-row-requires add-a loop-less loop-again same-length returns)
+    tie.close (tie.spec Inv-loop μ-loop (λ c κs. tt) loop-holds (λ c. omega arith) (λ c. omega arith) (λ c. omega arith) (λ c. omega arith)
+    (λ c. omega arith) (λ c κs. omega arith)
+    write-row-requires (λ c. omega arith) (λ c. omega arith) loop-again same-length returns)
