@@ -223,6 +223,10 @@ module _ (g : List ℕ) where
   pub sized : outside 1 mostVertices (length g) ≡ false → Sized g
   sized e = let r = within-range 1 mostVertices (length g) e in record { some = r .0; most = omega (arith, r .1) }
 
+  pub vertices-accepted : firstOf (graphCheck g) passed ≡ passed → (1 ≤ length g) × (length g ≤ mostVertices)
+  unfolding graphCheck vertexCause
+  vertices-accepted e = within-range 1 mostVertices (length g) (passed-head _ _ e)
+
   pub graph-sized : firstOf (graphCheck g) passed ≡ passed → Sized g
   unfolding graphCheck vertexCause
   graph-sized e = sized (passed-head _ _ e)

@@ -6,9 +6,9 @@ use mathlib.Core.List.{List, [], _∷_, _++_}
 use lib.ListN.{length, take, drop, replicate}
 use borrow.Author.Tests.{le-leb, lt-leb, lt-ltb, le-ltb}
 use Rattle.judging.specs.Request.{Request}
-use Rattle.judging.specs.Refusal.{refused, answered, firstOf, mostVertices, vertexCause, graphCauses}
-use Rattle.judging.specs.Calls.{refusal, numberOf, valueOf, passed, graphCheck, requestCheck}
-use Rattle.judging.specs.RefusalLaws.{first-append, first-holds, first-skips, first-refused, first-passed, passed-head, within-range}
+use Rattle.judging.specs.Refusal.{refused, answered, firstOf}
+use Rattle.judging.specs.Calls.{refusal, numberOf, valueOf, passed, requestCheck}
+use Rattle.judging.specs.RefusalLaws.{first-append, first-holds, first-skips, first-refused, first-passed, vertices-accepted}
 use Rattle.judging.specs.RefusalLaws.{graph-sized, graph-checked, slack-graph, slack-accepted, request-slack, floor-accepted}
 use Rattle.judging.specs.declared.Refusal.{Refusal}
 use Rattle.judging.specs.declared.Refusal.the-variants.{Slots}
@@ -32,12 +32,6 @@ unfolding placed
 placed-short l slots h = rw (lt-leb (length l) (length slots) h)
 
 module _ (g : List ℕ) (ask : Request) where
-  vertices-accepted : firstOf (requestCheck g ask) passed ≡ passed → length g ≤ mostVertices
-  unfolding graphCheck vertexCause
-  vertices-accepted e =
-      within-range 1 mostVertices (length g)
-      (passed-head (vertexCause (length g)) (graphCauses g) (slack-graph g (ask .slack) (request-slack g ask e))) .1
-
   pub accepted-holds : firstOf (requestCheck g ask) passed ≡ passed → Accepted g ask
   accepted-holds e =
       let s = request-slack g ask e in
@@ -89,7 +83,9 @@ module _ (g : List ℕ) (ask : Request) where
 
     module _ {before after : List ℕ} {m : ℕ} (x : Adds (2 ^ length g) (listed g ask) before 0 after m) where
       few : length (listing g ask) ≤ mostCount
-      few = let a = accepted-holds e in listing-counts g ask (omega (arith, a .slack, a .floor)) (vertices-accepted e)
+      few =
+          let a = accepted-holds e in
+          listing-counts g ask (omega (arith, a .slack, a .floor)) (vertices-accepted g (slack-graph g (ask .slack) (request-slack g ask e)) .1)
 
       counted : m ≡ length (listing g ask)
       counted = listing-placed g ask before after m few x .0

@@ -2,7 +2,7 @@
 -- loops over digits know at each turn.
 use Prim.Native.Nat.{ℕ, zero, suc, _+_, _-_, _*_, _/_, _%_, _^_, _≤_, _<_}
 use native.Mathlib.Nat.{lt-of-lt-of-le, pow-le-pow-right, le-refl, zero-lt-suc}
-use native.Mathlib.Nat.{pow-suc, add-zero, zero-add, add-suc, suc-add}
+use native.Mathlib.Nat.{mul-assoc, pow-suc, add-zero, zero-add, add-suc, suc-add}
 use native.Mathlib.Omega.{arith}
 use native.Mathlib.Numerals.{add-one}
 use native.Mathlib.Decide.{decLt, decLe}
@@ -11,12 +11,14 @@ use mathlib.Core.Bool.{Bool, true, false, _&&_, cond}
 use mathlib.Core.List.{List, [], _∷_, _++_, append-assoc, append-nil}
 use lib.Dec.{T, leb, ltb→lt, lt→ltb}
 use borrow.Author.Tests.{le-leb, lt-leb, lt-ltb, le-ltb}
+use lib.Pow.{pow-add}
 use lib.Arith.{digits-div, digits-mod, lt-one, le-zero}
 use lib.ListN.{length, getD, drop, set, length-append, length-set, drop-of-length-le}
 use lib.Seq.{drop-cons, getD-set-same, drop-set-lt, drop-length, lt-length-set}
+use Rattle.sets.specs.Words.{wordBits}
 use Rattle.sets.specs.Ranges.{all}
 use Rattle.sets.specs.RangeLaws.{and-left, and-right, both, all-append, all-at, all-next}
-use Rattle.sheets.specs.Digits.{noDigit, between, digitValue, isDigit, digitByte, digits, numberFrom, number}
+use Rattle.sheets.specs.Digits.{noDigit, wordDigits, between, digitValue, isDigit, digitByte, digits, numberFrom, number}
 use Rattle.sheets.specs.Setting.{Readable}
 
 -- ---- one digit
@@ -120,6 +122,24 @@ number-digits (suc w) x h =
     let low : x % 16 < noDigit = omega arith in
     number-from-append 0 (digits w (x / 16)) (digitByte d ∷ [])
     ∙ omega (arith, number-digits w (x / 16) (omega (arith, pow-suc 16 w)), value-byte (x % 16) low)
+
+-- the last w digits of a number do not show what stands above them
+digits-above : (w p x : ℕ) → digits w (p * 16 ^ w + x) ≡ digits w x
+unfolding digits
+digits-above zero p x = refl
+digits-above (suc w) p x =
+    let e : p * 16 ^ suc w ≡ p * 16 ^ w * 16 = ap (λ (y : ℕ). p * y) (pow-suc 16 w) ∙ sym (mul-assoc p (16 ^ w) 16) in
+    let high : (p * 16 ^ suc w + x) / 16 ≡ p * 16 ^ w + x / 16 = omega (arith, e) in
+    let low : (p * 16 ^ suc w + x) % 16 ≡ x % 16 = omega (arith, e) in
+    rw (high, low, digits-above w p (x / 16))
+
+pub digits-word : (w q x : ℕ) → w ≤ wordDigits → digits w (q * 2 ^ wordBits + x) ≡ digits w x
+digits-word w q x l =
+    let n = wordDigits - w in
+    let m : n + w ≡ wordDigits = omega arith in
+    let e : q * 2 ^ wordBits ≡ q * 16 ^ n * 16 ^ w =
+    ap (λ (i : ℕ). q * 16 ^ i) (sym m) ∙ ap (λ (y : ℕ). q * y) (pow-add 16 n w) ∙ sym (mul-assoc q (16 ^ n) (16 ^ w)) in
+    rw e (digits-above w (q * 16 ^ n) x)
 
 -- the digits of the number that goes on from x with the digits bs are those of x and then bs
 digits-from : (w x : ℕ) (bs : List ℕ) → T (all isDigit bs) → digits (w + length bs) (numberFrom x bs) ≡ digits w x ++ bs

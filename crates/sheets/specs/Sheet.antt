@@ -14,9 +14,8 @@ use mathlib.Core.Bool.{Bool, not, _||_}
 use mathlib.Core.List.{List, [], _∷_, _++_}
 use lib.Dec.{ltb}
 use lib.ListN.{length, drop}
-use Rattle.sets.specs.Words.{width}
 use Rattle.judging.specs.Request.{Request, request}
-use Rattle.judging.specs.Refusal.{Reply, refused, answered, Cause, cause, firstOf, vertexCause, slackCause, floorCause, graphCauses}
+use Rattle.judging.specs.Refusal.{Reply, refused, answered, Cause, cause, firstOf, mostVertices, vertexCause, slackCause, floorCause, graphCauses}
 use Rattle.judging.specs.Calls.{requestCheck}
 use Rattle.sheets.specs.Digits.{digits}
 use Rattle.sheets.specs.Lines.{line, lines, isLine, field, rightLines, numbers}
@@ -39,7 +38,7 @@ headingDigits = 6
 
 -- a digit for each four vertices that a row can have
 abbrev pub rowDigits : ℕ
-rowDigits = width / 4
+rowDigits = mostVertices / 4
 
 abbrev pub headingLength : ℕ
 headingLength = headingDigits + 1

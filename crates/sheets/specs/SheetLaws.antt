@@ -13,13 +13,12 @@ use lib.Seq.{take-at, drop-at, take-add, drop-drop, length-take-le}
 use Rattle.sets.specs.Ranges.{all}
 use Rattle.sets.specs.RangeLaws.{true-holds, all-append, all-part}
 use Rattle.sets.specs.Graph.{row}
-use Rattle.sets.specs.Words.{width}
 use Rattle.judging.specs.Request.{Request}
-use Rattle.judging.specs.Refusal.{answered, Cause, firstOf, vertexCause, slackCause, floorCause, graphCauses}
+use Rattle.judging.specs.Refusal.{mostVertices, answered, Cause, firstOf, vertexCause, slackCause, floorCause, graphCauses}
 use Rattle.judging.specs.Calls.{passed, requestCheck}
 use Rattle.judging.specs.RefusalLaws.{first-append, first-skips, first-passed, answered-passed, answered-found}
 use Rattle.judging.specs.RefusalLaws.{passed-head, passed-tail, passed-front, passed-back}
-use Rattle.judging.specs.RefusalLaws.{graph-sized, graph-checked, slack-accepted, slack-graph, request-slack, floor-accepted}
+use Rattle.judging.specs.RefusalLaws.{vertices-accepted, graph-checked, slack-accepted, slack-graph, request-slack, floor-accepted}
 use Rattle.sheets.specs.Digits.{isDigit, digits, number}
 use Rattle.sheets.specs.Lines.{newline, line, lines, isLine, field, rightLines, numbers}
 use Rattle.sheets.specs.Sheet.{headingDigits, rowDigits, rowLength, sheetLength, headingText, sheetText}
@@ -227,11 +226,11 @@ pub accepted-back : (g : List ℕ) (ask : Request) (room : ℕ) → firstOf (req
 unfolding roomCause firstOf
 accepted-back g ask room e l =
     let checked = slack-graph g (ask .slack) (request-slack g ask e) in
-    let n = graph-sized g checked in
+    let n = vertices-accepted g checked in
     let slack = slack-accepted g (ask .slack) (request-slack g ask e) in
     let floor = floor-accepted g ask e in
-    reads-written g ask room (omega (arith, n .most)) (omega arith) (omega arith)
-    (λ a h. lt-of-lt-of-le (graph-checked g checked .low a h) (pow-mono {i = length g} {j = width} (n .most)))
+    reads-written g ask room (omega (arith, n)) (omega arith) (omega arith)
+    (λ a h. lt-of-lt-of-le (graph-checked g checked .low a h) (pow-mono {i = length g} {j = mostVertices} (n .1)))
     ∙ first-append (requestCheck g ask) (roomCause room (length g) ∷ []) (answered 0 (sheet g ask))
     ∙ first-passed (requestCheck g ask) (firstOf (roomCause room (length g) ∷ []) (answered 0 (sheet g ask))) e
     ∙ first-skips (roomCause room (length g)) [] (answered 0 (sheet g ask)) (le-ltb room (length g) l)

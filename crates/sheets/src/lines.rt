@@ -3,7 +3,7 @@ ghost use mathlib.Core.Path.{_≡_};
 ghost use Prim.Native.Nat.{_+_, _-_, _*_, _^_, _≤_, _<_};
 ghost use lib.ListN.{length, drop};
 ghost use Rattle.sets.specs.Words.{mask, masks};
-ghost use Rattle.sheets.specs.Digits.{digits};
+ghost use Rattle.sheets.specs.Digits.{wordDigits, digits};
 ghost use Rattle.sheets.specs.Lines.{line, lines, isLine};
 ghost use Rattle.sheets.specs.Sheet.{rowDigits, rowLength, over};
 use crate::digits;
@@ -12,7 +12,7 @@ use sets::Set;
 pub(crate) const NEWLINE: u8 = 10;
 
 // A digit for each four vertices that a row can have, and the byte that ends the line.
-pub(crate) const ROW_DIGITS: usize = sets::WIDTH / 4;
+pub(crate) const ROW_DIGITS: usize = judging::check::MOST_VERTICES / 4;
 
 pub const ROW_LENGTH: usize = ROW_DIGITS + 1;
 
@@ -41,9 +41,9 @@ pub fn write_line(text: &mut [u8], x: u64)
     text[end] = NEWLINE;
 }
 
-// Fills the text with the last digits of the mask of s and the byte that ends a line: a row, or a set of a list.
-pub fn write_row(text: &mut [u8], s: Set)
-    requires { ⌜ 0 < length (now text) ⌝ }
+// Fills the text with the last digits of the mask of s, no more than a word has, and the byte that ends a line: a row, or a set of a list.
+fn write_row(text: &mut [u8], s: Set)
+    requires { ⌜ (0 < length (now text)) × (length (now text) ≤ wordDigits + 1) ⌝ }
     ensures { λ _. ⌜ now (text .exit) ≡ line (digits (length (now (text .entry)) - 1) (mask s)) ⌝ }
 {
     write_line(text, sets::word(s, 0));

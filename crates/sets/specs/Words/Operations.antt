@@ -38,6 +38,11 @@ unfolding wordOf
 word-of s zero l = refl
 word-of s (suc j) l = absurd (omega arith)
 
+-- word 0 has the lowest digits of the mask
+pub word-low : (s : Set) → (q : ℕ) × (mask s ≡ q * 2 ^ wordBits + wordOf s 0)
+unfolding wordOf mask number
+word-low s = (0, refl)
+
 -- word 0 is all of a set: at one word per set only
 pub word-mask : (s : Set) → wordOf s 0 ≡ mask s
 unfolding wordOf mask number
