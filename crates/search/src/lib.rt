@@ -40,12 +40,12 @@ pub struct Cuts {
     pub pivot: bool,
 }
 
-// The vertices to start from: the core, or all.
+// The vertices to start from: the core, or all. At floor k the core is all.
 fn candidates(rows: &[u64], k: usize, q: usize, core: bool) -> Set
     requires { ⌜ Accepted (masks (now rows)) (request k q) ⌝ }
     ensures { λ r. ⌜ Candidates (masks (now (rows .entry))) (request k q) (mask r) ⌝ }
 {
-    if core {
+    if core && k < q {
         return bounds::core::core(rows, q - k);
     }
     sets::full(sets::count(rows))
