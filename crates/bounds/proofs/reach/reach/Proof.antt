@@ -1,5 +1,8 @@
 -- What is found midway through the neighbours of v is their rows joined so far, and nothing outside the reach (`Reaching`); at the end it is the reach.
+use Prim.Native.Nat.{_<_}
 use native.Mathlib.Omega.{arith}
+use denote.Ref.{now}
+use lib.ListN.{length}
 use borrow.Author.Needs.{needs}
 use Rattle.sets.specs.Words.{mask, masks}
 use Rattle.sets.specs.WalkLaws.{walk-falls, walk-below, walk-goes-on, walk-over}
@@ -19,11 +22,16 @@ loop-holds c = rw (c .with .ensures, c .before .get .ensures) (reaching-none (c 
 lowest-requires : tie.Need-lowest-requires Inv-loop μ-loop
 lowest-requires c κs = walk-goes-on (c .before .is-empty .ensures) (c .if1 .taken)
 
-get-requires-2 : tie.Need-get-requires-2 Inv-loop μ-loop
-get-requires-2 c κs =
+-- the neighbour that the turn takes is a vertex
+vertex : (c : tie.After-lowest Inv-loop μ-loop)
+    → c .lowest .result < length (masks (now (c .before .before .before .before .before .before .before .args .rows)))
+vertex c =
     let turn = c .before .before .before in
     let start = turn .before .before .before .before in
     walk-below (start .pre .0 .low _ (start .pre .1)) (turn .loop .inv .two .part) (c .lowest .ensures)
+
+get-requires-2 : tie.Need-get-requires-2 Inv-loop μ-loop
+get-requires-2 c κs = vertex c
 
 loop-less : tie.Need-loop-less Inv-loop μ-loop
 loop-less c = walk-falls (c .before .before .before .lowest .ensures) (c .rest .ensures)
@@ -35,7 +43,7 @@ loop-again c =
     let turn = found .before .before .before in
     let low = turn .before .before .before .before .pre .0 in
     rw (c .rest .ensures, c .before .join .ensures, joined .get2 .ensures)
-    (reaching-next low (get-requires-2 found (joined .get2 .lifetimes)) (turn .loop .inv) (found .lowest .ensures))
+    (reaching-next low (vertex found) (turn .loop .inv) (found .lowest .ensures))
 
 returns : tie.Need-returns Inv-loop μ-loop
 returns c = reaching-all (c .before .before .loop .inv) (walk-over (c .before .is-empty .ensures) (c .if1 .left))
