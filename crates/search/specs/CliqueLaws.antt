@@ -21,7 +21,7 @@ use Rattle.sets.specs.Graph.{row}
 use Rattle.sets.specs.Words.{Lowest}
 use Rattle.sets.specs.BitLaws.{bit-le, bit-and, bit-or, bit-minus, bit-pow-same}
 use Rattle.sets.specs.PointLaws.{bit-with, in-single, by-bit, none-out, parts-whole}
-use Rattle.sets.specs.RangeLaws.{and-left, and-right, both, same-test}
+use Rattle.sets.specs.RangeLaws.{and-left, and-right, both, test-same}
 use Rattle.sets.specs.SubsetLaws.{sub-refl, sub-trans, in-of-sub, in-below, with-same, sub-with, minus-sub, positive-of}
 use Rattle.sets.specs.SizeLaws.{positive-size, size-mono, some-member, two-members, and-below}
 use Rattle.sets.specs.WordLaws.{bit-full}
@@ -211,7 +211,7 @@ module _ (g : List ℕ) (ask : Request) (s b t x : ℕ) where
 pub touched-all : {g : List ℕ} {ask : Request} {s c : ℕ} (d : ℕ) → Sub d c → ((x : ℕ) → Found g ask s c x → 0 < bitAnd x d)
     → (x : ℕ) → x < 2 ^ length g → touched g ask s (minus c d) d x ≡ found g ask s c x
 touched-all {g} {ask} {s} {c} d part hits x l =
-    same-test (touched g ask s (minus c d) d x) (found g ask s c x)
+    test-same (touched g ask s (minus c d) d x) (found g ask s c x)
     (λ z. found-test g ask s c x (rw whole at (touched-holds g ask s (minus c d) d x l z .0)))
     (λ z. let f = found-holds g ask s c x l z in touched-test g ask s (minus c d) d x (rw whole f) (hits x f))
   where

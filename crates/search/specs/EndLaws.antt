@@ -15,7 +15,7 @@ use Rattle.sets.specs.Graph.{row}
 use Rattle.sets.specs.Words.{Lowest}
 use Rattle.sets.specs.BitLaws.{ext, bit-le, bit-and, bit-or, bit-minus, bit-pow-same, bit-pow-other}
 use Rattle.sets.specs.PointLaws.{bit-none, bit-with, single-in, single-out, by-bit, none-out, none-by, minus-self}
-use Rattle.sets.specs.RangeLaws.{and-left, and-right, both, true-holds, false-fails, same-test}
+use Rattle.sets.specs.RangeLaws.{and-left, and-right, both, true-holds, false-fails, test-same}
 use Rattle.sets.specs.SubsetLaws.{sub-refl, in-of-sub, positive, with-same, with-below, sub-with, has-in, in-has}
 use Rattle.judging.specs.Request.{Request}
 use Rattle.judging.specs.Plex.{Plex, Maximal}
@@ -49,7 +49,7 @@ module _ {g : List ℕ} {ask : Request} {have s m : ℕ} (h : Taking g ask have 
             (λ e. omega (arith, subst (λ (y : ℕ). bit s y ≡ 0) (sym e) o))
 
     lonely : (y : ℕ) → y < 2 ^ length g → unless (ltb have (ask .floor)) s y ≡ found g ask s 0 y
-    lonely y l = same-test (unless few s y) (found g ask s 0 y) into back
+    lonely y l = test-same (unless few s y) (found g ask s 0 y) into back
       where
         few : Bool
         few = ltb have (ask .floor)

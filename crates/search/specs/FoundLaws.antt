@@ -10,7 +10,7 @@ use lib.Bits.{bitOr}
 use lib.ListN.{length}
 use Rattle.sets.specs.Set.{bit, In, Sub, size, subset, with, without, minus}
 use Rattle.sets.specs.Graph.{row}
-use Rattle.sets.specs.RangeLaws.{and-left, and-right, both, or-cases, or-left, or-right, same-test}
+use Rattle.sets.specs.RangeLaws.{and-left, and-right, both, or-cases, or-left, or-right, test-same}
 use Rattle.sets.specs.BitLaws.{bit-le, bit-or, bit-minus}
 use Rattle.sets.specs.PointLaws.{bit-none, bit-with, single-in, single-out, by-bit}
 use Rattle.sets.specs.SubsetLaws.{subset-sub, sub-subset, sub-trans, in-below, with-sub, with-same, sub-with, without-same}
@@ -159,7 +159,7 @@ module _ {g : List ℕ} {ask : Request} {s c v r : ℕ} (e : In v c) (h : Beside
   branches x l =
       let out = found g ask s (without c v) x in
       let beside = found g ask (with s v) r x in
-      same-test (union (found g ask s (without c v)) (found g ask (with s v) r) x) (found g ask s c x)
+      test-same (union (found g ask s (without c v)) (found g ask (with s v) r) x) (found g ask s c x)
       (λ t. found-test g ask s c x (⊎-elim
       (λ w. found-without v (found-holds g ask s (without c v) x l w))
       (λ w. found-with (found-holds g ask (with s v) r x l w))
@@ -171,7 +171,7 @@ module _ {g : List ℕ} {ask : Request} {s c v r : ℕ} (e : In v c) (h : Beside
   -- where the branch with v is cut, the other has all
   pub branch-without : Empty g ask (with s v) r → (x : ℕ) → x < 2 ^ length g → found g ask s (without c v) x ≡ found g ask s c x
   branch-without none x l =
-      same-test (found g ask s (without c v) x) (found g ask s c x)
+      test-same (found g ask s (without c v) x) (found g ask s c x)
       (λ t. found-test g ask s c x (found-without v (found-holds g ask s (without c v) x l t)))
       (λ t. let f = found-holds g ask s c x l t in found-test g ask s (without c v) x (by-bit x v
       (λ i. absurd (none x (with-found f i)))

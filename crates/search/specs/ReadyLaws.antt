@@ -9,7 +9,7 @@ use lib.Bits.{or-lt}
 use lib.ListN.{length}
 use Rattle.sets.specs.Set.{bit, In, size, with, without, minus}
 use Rattle.sets.specs.Graph.{row}
-use Rattle.sets.specs.RangeLaws.{and-left, and-right, both, same-test}
+use Rattle.sets.specs.RangeLaws.{and-left, and-right, both, test-same}
 use Rattle.sets.specs.BitLaws.{bit-or}
 use Rattle.sets.specs.PointLaws.{bit-with, single-out, by-bit}
 use Rattle.sets.specs.SubsetLaws.{sub-number, in-of-sub, in-below, minus-sub, with-below}
@@ -93,7 +93,7 @@ module _ {g t : List ℕ} {ask : Request} {s c a : ℕ} (h : Whole g t ask s c a
   leaf-same p l y ly =
       let more = extendable g (ask .slack) a in
       let ok = h .ready .settled .valid in
-      same-test (unless more a y) (found g ask s c y)
+      test-same (unless more a y) (found g ask s c y)
       (λ z. found-test g ask s c y (rw (eqb→eq y a (and-right (not more) (eqb y a) z))
       (leaf-found (h .whole) whole-below p ok (T-not more (and-left (not more) (eqb y a) z)) l)))
       (λ z. let f = found-holds g ask s c y ly z in both (not more) (eqb y a)

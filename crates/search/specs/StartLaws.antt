@@ -12,7 +12,7 @@ use Rattle.sets.specs.Words.{perSet, width, masks}
 use Rattle.sets.specs.Words.Masks.{count-masks}
 use Rattle.sets.specs.BitLaws.{bit-or}
 use Rattle.sets.specs.PointLaws.{bit-none, bit-with, in-single}
-use Rattle.sets.specs.RangeLaws.{same-test}
+use Rattle.sets.specs.RangeLaws.{test-same}
 use Rattle.sets.specs.WordLaws.{sub-full}
 use Rattle.sets.specs.SubsetLaws.{sub-of-in, in-of-sub, in-below, sub-with, with-same, with-below}
 use Rattle.judging.specs.Request.{Request, request}
@@ -92,7 +92,7 @@ module _ {g : List ℕ} {ask : Request} {s c : ℕ} (e : s ≡ 0) (d : Candidate
   -- all that is listed is found
   pub start-found : (x : ℕ) → x < 2 ^ length g → found g ask s c x ≡ listed g ask x
   start-found x l =
-      same-test (found g ask s c x) (listed g ask x)
+      test-same (found g ask s c x) (listed g ask x)
       (λ t. listed-test g ask x (found-holds g ask s c x l t .listed))
       (λ t. let h = listed-holds g ask x l t in found-test g ask s c x (record {
         lower = λ v. omega (arith, ap (λ (y : ℕ). bit y v) e, bit-none v);

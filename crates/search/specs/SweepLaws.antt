@@ -19,7 +19,7 @@ use Rattle.sets.specs.Graph.{row}
 use Rattle.sets.specs.Words.{Lowest}
 use Rattle.sets.specs.BitLaws.{ext, bit-le, bit-and, bit-or, bit-minus}
 use Rattle.sets.specs.PointLaws.{bit-with, single-in, single-out, by-bit, none-out, none-by}
-use Rattle.sets.specs.RangeLaws.{or-cases, or-left, or-right, same-test}
+use Rattle.sets.specs.RangeLaws.{or-cases, or-left, or-right, test-same}
 use Rattle.sets.specs.SubsetLaws.{sub-trans, sub-number, with-sub, with-same, with-below, sub-with, positive, positive-of}
 use Rattle.sets.specs.SizeLaws.{size-with}
 use Rattle.sets.specs.WalkLaws.{without-less}
@@ -143,7 +143,7 @@ module _ {g : List ℕ} {ask : Request} {have s b m t : ℕ} (h : Sweeping g ask
 
     sweep-split : (x : ℕ) → x < 2 ^ length g → union (first g ask s b v) (rest g ask s b t v) x ≡ touched g ask s b t x
     sweep-split x l =
-        same-test (union (first g ask s b v) (rest g ask s b t v) x) (touched g ask s b t x)
+        test-same (union (first g ask s b v) (rest g ask s b t v) x) (touched g ask s b t x)
         (λ y. back (or-cases (first g ask s b v x) (rest g ask s b t v x) y))
         (λ y. let w = touched-holds g ask s b t x l y in into (w .0) (w .1) (ℕ-discrete (bitAnd x (without t v)) 0))
       where
