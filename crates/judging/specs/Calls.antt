@@ -12,7 +12,7 @@ use Rattle.judging.specs.Plex.{plex, maximal}
 use Rattle.judging.specs.Request.{Request}
 use Rattle.judging.specs.Refusal.{Reply, refused, answered, Cause, firstOf, vertexCause, slackCause, floorCause, graphCauses, setCause}
 use Rattle.judging.specs.declared.Refusal.{Refusal}
-use Rattle.judging.specs.declared.Refusal.the-variants.{Vertices, Slack, Floor, Row, OneWay, Slots, Outside, Line, Room, Bound}
+use Rattle.judging.specs.declared.Refusal.the-variants.{Vertices, Slack, Floor, Row, OneWay, Slots, Outside, Line, Room, Bound, Forced}
 use Rattle.judging.specs.declared.Checked.{Checked}
 use Rattle.judging.specs.declared.Checked.the-variants.{Passed, Failed}
 use Rattle.judging.specs.declared.Judged.{Judged}
@@ -29,6 +29,7 @@ numberOf Outside = 7
 numberOf (Line l) = 8
 numberOf (Room n) = 9
 numberOf Bound = 10
+numberOf Forced = 11
 
 abbrev pub valueOf : Refusal → ℕ
 valueOf Vertices = 0
@@ -41,6 +42,7 @@ valueOf Outside = 0
 valueOf (Line l) = l
 valueOf (Room n) = n
 valueOf Bound = 0
+valueOf Forced = 0
 
 abbrev pub refusal : {A : Type 0} → Refusal → Reply A
 refusal f = refused (numberOf f) (valueOf f)

@@ -20,6 +20,7 @@ pub enum Refusal {
     Line(usize),
     Room(usize),
     Bound,
+    Forced,
 }
 
 // The outcome of a check of the input.
@@ -56,6 +57,7 @@ pub fn number(refusal: Refusal) -> usize
         Refusal::Line(_) => 8,
         Refusal::Room(_) => 9,
         Refusal::Bound => 10,
+        Refusal::Forced => 11,
     }
 }
 
@@ -74,6 +76,7 @@ pub fn value(refusal: Refusal) -> usize
         Refusal::Floor => 0,
         Refusal::Outside => 0,
         Refusal::Bound => 0,
+        Refusal::Forced => 0,
     }
 }
 

@@ -10,13 +10,13 @@ ghost use Rattle.search.specs.Start.{Accepted, Candidates, Startable};
 ghost use Rattle.search.specs.Calls.{Lists};
 
 mod branch;
-mod choice;
+pub mod choice;
 mod cliques;
-mod cut;
-mod near;
+pub mod cut;
+pub mod near;
 mod partition;
-mod survey;
-mod trim;
+pub mod survey;
+pub mod trim;
 
 use judging::Checked;
 use judging::Refusal;

@@ -1,0 +1,4 @@
+-- The largest k-plex that holds forced vertices: definitions first, then their laws.
+pub mod Largest
+pub mod Calls
+pub mod Sought
