@@ -132,21 +132,21 @@ module _ {g : List ℕ} {ask : Request} {v : ℕ} where
                 in-of-sub x (reach g v) u (plex-reach g (ask .slack) x v ok (h .below) (h .top .0) (omega (arith, h .large)) hv) hu;
           }
 
-      pub reach-row-near : (r : Bool) → NearAt g ask v (reachRow g r v)
-      unfolding reachRow
-      reach-row-near true = reach-near
-      reach-row-near false = full-near
+    pub reach-row-near : (r : Bool) → (r ≡ true → 2 * ask .slack ≤ ask .floor + 1) → NearAt g ask v (reachRow g r v)
+    unfolding reachRow
+    reach-row-near true big = reach-near (big refl)
+    reach-row-near false big = full-near
 
 -- whatever is switched on
-pub near-row-near : {g : List ℕ} {ask : Request} {s : ℕ} (v : ℕ) (r p : Bool) → Pairing g ask s → 2 * ask .slack ≤ ask .floor + 1
+pub near-row-near : {g : List ℕ} {ask : Request} {s : ℕ} (v : ℕ) (r p : Bool) → Pairing g ask s → (r ≡ true → 2 * ask .slack ≤ ask .floor + 1)
     → NearAt g ask v (nearRow g (ask .slack) (ask .floor) s r p v)
 unfolding nearRow
-near-row-near {g} {ask} {s} v r true h big = pair-row-near (h .valid) s (reachRow g r v) (h .holds) (reach-row-near (h .valid) big r)
-near-row-near v r false h big = reach-row-near (h .valid) big r
+near-row-near {g} {ask} {s} v r true h big = pair-row-near (h .valid) s (reachRow g r v) (h .holds) (reach-row-near (h .valid) r big)
+near-row-near v r false h big = reach-row-near (h .valid) r big
 
 -- so the table is
-pub written-filled : {g : List ℕ} {ask : Request} {s m : ℕ} {before t : List ℕ} (r p : Bool) → Pairing g ask s → 2 * ask .slack ≤ ask .floor + 1
-    → length g ≤ m → Written (nearRow g (ask .slack) (ask .floor) s r p) m before t → Filled g ask before t
+pub written-filled : {g : List ℕ} {ask : Request} {s m : ℕ} {before t : List ℕ} (r p : Bool) → Pairing g ask s
+    → (r ≡ true → 2 * ask .slack ≤ ask .floor + 1) → length g ≤ m → Written (nearRow g (ask .slack) (ask .floor) s r p) m before t → Filled g ask before t
 written-filled r p h big all w =
     record {
       long = w .long;

@@ -32,11 +32,14 @@ use Rattle.search.specs.NearRows.{Pairing}
 use Rattle.search.specs.Ready.{Ready}
 use Rattle.search.specs.Cliques.{Common, Taking}
 use Rattle.search.specs.CliqueLaws.{clique-adjacent}
-use Rattle.search.specs.Start.{Accepted, Candidates, Startable}
+use Rattle.search.specs.Start.{Searchable, Accepted, Candidates, Startable}
 
 -- a table of `width` words has a row for each vertex
 pub table-fits : {g : List ℕ} (ws : List ℕ) → Sized g → length ws ≡ width * perSet → length g ≤ length (masks ws)
 table-fits ws z e = omega (arith, z .most, count-masks ws)
+
+pub accepted-searchable : {g : List ℕ} {ask : Request} → Accepted g ask → Searchable g ask
+accepted-searchable a = record { sized = a .sized; valid = a .valid; slack = a .slack; floor = a .floor .1 }
 
 -- ---- the candidates
 
@@ -57,14 +60,14 @@ module _ {g : List ℕ} {ask : Request} {c : ℕ} where
         holds = λ x h. sub-full (length g) x (h .below);
       })
 
-  pub start-pairing : Accepted g ask → Candidates g ask c → Pairing g ask c
+  pub start-pairing : Searchable g ask → Candidates g ask c → Pairing g ask c
   start-pairing a d =
       record {
         pairable =
             record {
               inside = record { some = a .sized .some; most = a .sized .most; below = d .below };
               slack = omega (arith, a .slack .1);
-              floor = a .floor .1;
+              floor = a .floor;
             };
         valid = a .valid;
         holds = d .holds;
@@ -73,7 +76,7 @@ module _ {g : List ℕ} {ask : Request} {c : ℕ} where
 -- ---- from the empty set
 
 module _ {g : List ℕ} {ask : Request} {s c : ℕ} (e : s ≡ 0) (d : Candidates g ask c) where
-  start-compatible : Accepted g ask → Compatible g (ask .slack) s c
+  pub start-compatible : 1 ≤ ask .slack → Compatible g (ask .slack) s c
   start-compatible a =
       rw e
       (record {
@@ -83,11 +86,11 @@ module _ {g : List ℕ} {ask : Request} {s c : ℕ} (e : s ≡ 0) (d : Candidate
         plexed = λ v l i. absurd (omega (arith, bit-none v));
         joined = λ v i u l j.
             subst (λ (y : ℕ). missing g (with 0 v) y ≤ ask .slack) (in-single v u (omega (arith, bit-with 0 v u, bit-none u)))
-            (omega (arith, missing-with g 0 v v (bit-none v), degree-missing g 0 v, ones-le 0 0 (pow-pos 0), a .slack));
+            (omega (arith, missing-with g 0 v v (bit-none v), degree-missing g 0 v, ones-le 0 0 (pow-pos 0), a));
       })
 
   pub whole-startable : Accepted g ask → Startable g ask c s c
-  whole-startable a = record { accepted = a; candidates = d; fine = start-compatible a }
+  whole-startable a = record { accepted = a; candidates = d; fine = start-compatible (a .slack .0) }
 
   -- all that is listed is found
   pub start-found : (x : ℕ) → x < 2 ^ length g → found g ask s c x ≡ listed g ask x

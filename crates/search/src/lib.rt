@@ -6,7 +6,7 @@ ghost use Rattle.judging.specs.Request.{request, asked};
 ghost use Rattle.lists.specs.Listing.{listed};
 ghost use Rattle.lists.specs.Placing.{Adds};
 ghost use Rattle.search.specs.Found.{AddsFound};
-ghost use Rattle.search.specs.Start.{Accepted, Candidates, Startable};
+ghost use Rattle.search.specs.Start.{Searchable, Accepted, Candidates, Startable};
 ghost use Rattle.search.specs.Calls.{Lists};
 
 mod branch;
@@ -41,12 +41,14 @@ pub struct Cuts {
 }
 
 // The vertices to start from: the core, or all. At floor k the core is all.
-fn candidates(rows: &[u64], k: usize, q: usize, core: bool) -> Set
-    requires { ⌜ Accepted (masks (now rows)) (request k q) ⌝ }
+pub fn candidates(rows: &[u64], k: usize, q: usize, core: bool) -> Set
+    requires { ⌜ Searchable (masks (now rows)) (request k q) ⌝ }
     ensures { λ r. ⌜ Candidates (masks (now (rows .entry))) (request k q) (mask r) ⌝ }
 {
-    if core && k < q {
-        return bounds::core::core(rows, q - k);
+    if core {
+        if k < q {
+            return bounds::core::core(rows, q - k);
+        }
     }
     sets::full(sets::count(rows))
 }

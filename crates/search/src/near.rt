@@ -1,5 +1,6 @@
 // Tables of near rows: once the search has taken a vertex, it keeps no candidate outside the vertex's row.
 ghost use mathlib.Core.Path.{_≡_};
+ghost use mathlib.Core.Bool.{true};
 ghost use Prim.Native.Nat.{_+_, _*_, _^_, _<_, _≤_};
 ghost use lib.ListN.{length};
 ghost use Rattle.sets.specs.Words.{mask, masks};
@@ -59,7 +60,7 @@ fn near_row(rows: &[u64], k: usize, q: usize, core: Set, reach: bool, pairs: boo
 
 // Writes the table row by row.
 pub fn fill(rows: &[u64], k: usize, q: usize, core: Set, reach: bool, pairs: bool, near: &mut [u64])
-    requires { ⌜ Lent (masks (now rows)) (masks (now near)) × Pairing (masks (now rows)) (request k q) (mask core) × (2 * k ≤ q + 1) ⌝ }
+    requires { ⌜ Lent (masks (now rows)) (masks (now near)) × Pairing (masks (now rows)) (request k q) (mask core) × (reach ≡ true → 2 * k ≤ q + 1) ⌝ }
     ensures { λ _. ⌜ Filled (masks (now (rows .entry))) (request k q) (masks (now (near .entry))) (masks (now (near .exit))) ⌝ }
 {
     let n = sets::count(rows);

@@ -3,7 +3,7 @@
 use native.Mathlib.Omega.{arith}
 use mathlib.Core.Path.{_≡_, refl}
 use borrow.Author.Needs.{needs}
-use Rattle.search.specs.StartLaws.{table-fits, start-pairing, start-ready, start-taking}
+use Rattle.search.specs.StartLaws.{table-fits, accepted-searchable, start-pairing, start-ready, start-taking}
 use Rattle.search.proofs.enumerate_from.Statement.{statement}
 use Rattle.search.proofs.enumerate_from.Tie as tie
 
@@ -22,8 +22,8 @@ fill-requires : tie.Need-fill-requires
 fill-requires c κs =
     let ready = c .before .before .before .before .before .pre in (
       record { sized = ready .accepted .sized; room = table-fits _ (ready .accepted .sized) refl },
-      start-pairing (ready .accepted) (ready .candidates),
-      ready .accepted .floor .0,
+      start-pairing (accepted-searchable (ready .accepted)) (ready .candidates),
+      (λ e. ready .accepted .floor .0),
     )
 
 branch-requires : tie.Need-branch-requires

@@ -1,0 +1,98 @@
+-- Laws of a search for one k-plex: where a branch is cut nothing is there, at a leaf all of it is one, and where the branch without a vertex gave nothing,
+-- the branch with it decides.
+use Prim.Native.Nat.{ℕ, _^_, _≤_, _<_}
+use native.Mathlib.Omega.{arith}
+use native.Mathlib.Decide.{ℕ-discrete}
+use mathlib.Core.Path.{_≡_, sym, subst}
+use mathlib.Core.List.{List}
+use lib.Dec.{T}
+use lib.Bits.{bitOr}
+use lib.Count.{ones-le}
+use lib.Pow.{pow-pos}
+use lib.ListN.{length}
+use Rattle.sets.specs.Set.{bit, In, Sub, size, with, without, minus}
+use Rattle.sets.specs.Graph.{row}
+use Rattle.sets.specs.BitLaws.{bit-or, bit-minus}
+use Rattle.sets.specs.PointLaws.{bit-with, single-in, by-bit}
+use Rattle.sets.specs.SubsetLaws.{sub-trans, sub-refl, sub-with, positive-of}
+use Rattle.judging.specs.Request.{Request}
+use Rattle.judging.specs.Graph.{missing}
+use Rattle.judging.specs.Plex.{Plex, extendable}
+use Rattle.search.specs.Found.{Empty, Short}
+use Rattle.search.specs.FoundLaws.{short-empty, extendable-empty, stuck-empty, without-found, with-found}
+use Rattle.search.specs.Ready.{Whole, Split}
+use Rattle.search.specs.ReadyLaws.{whole-inside}
+use Rattle.largest.specs.Sought.{Within, Sought}
+
+pub sought-empty : {g : List ℕ} {ask : Request} {s c r : ℕ} → Empty g ask s c → r ≡ 0 → Sought g ask s c r
+sought-empty none z = record { some = λ l. absurd (omega (arith, z, l)); none = λ e. none }
+
+-- ---- s and c together
+
+module _ {g t : List ℕ} {ask : Request} {s c a : ℕ} (h : Whole g t ask s c a) where
+  pub sought-short : {r : ℕ} → Short g (ask .slack) (ask .floor) s a → r ≡ 0 → Sought g ask s c r
+  sought-short l = sought-empty (short-empty (h .whole) l)
+
+  pub sought-extendable : {r : ℕ} → T (extendable g (ask .slack) a) → r ≡ 0 → Sought g ask s c r
+  sought-extendable l = sought-empty (extendable-empty (h .whole) (h .ready .settled .valid) l)
+
+  pub sought-stuck : {r : ℕ} (w : ℕ) → In w a → ask .slack < missing g a w → (bit c w ≡ 0) × (minus c (row g w) ≡ 0) → r ≡ 0 → Sought g ask s c r
+  sought-stuck w i many z = sought-empty (stuck-empty (h .whole) w i (z .0) many (z .1))
+
+  pub sought-leaf : Plex g (ask .slack) a → ask .floor ≤ size a → 1 ≤ ask .floor → Sought g ask s c a
+  sought-leaf p l some =
+      record {
+        some = λ o.
+            record {
+              below = whole-inside h .below;
+              plexed = p;
+              large = l;
+              lower = λ u. rw (h .whole) (omega (arith, bit-or s c u));
+              upper = rw (h .whole) (sub-refl (bitOr s c));
+            };
+        none = λ z. absurd (omega (arith, l, some, subst (λ (x : ℕ). size x ≤ 0) (sym z) (ones-le 0 0 (pow-pos 0))));
+      }
+
+-- ---- with and without a vertex
+
+module _ {g t : List ℕ} {ask : Request} {s c v r rest o : ℕ} (h : Split g t ask s c v r rest) (w : Sought g ask s rest o) where
+  pub sought-without : 0 < o → Sought g ask s c o
+  sought-without l =
+      let found = w .some l in
+      record {
+        some = λ l.
+            record {
+              below = found .below;
+              plexed = found .plexed;
+              large = found .large;
+              lower = found .lower;
+              upper = λ u. omega (arith, rw (h .others) at (found .upper u), bit-or s (without c v) u, bit-or s c u, bit-minus c (2 ^ v) u);
+            };
+        none = λ z. absurd (omega (arith, z, l));
+      }
+
+  pub sought-branches : {j p : ℕ} → o ≡ 0 → j ≡ with s v → Sought g ask j r p → Sought g ask s c p
+  sought-branches {j} {p} z e y =
+      record {
+        some = λ l. let found : Within g (ask .slack) (ask .floor) (with s v) r p = rw e at (y .some l) in
+            record {
+              below = found .below;
+              plexed = found .plexed;
+              large = found .large;
+              lower = sub-trans s (with s v) p (sub-with s v) (found .lower);
+              upper = λ u. omega (
+                arith,
+                found .upper u,
+                bit-or (with s v) r u,
+                bit-with s v u,
+                h .beside .kept .part u,
+                bit-minus c (2 ^ v) u,
+                single-in c v u (h .member),
+                bit-or s c u,
+              );
+            };
+        none = λ q x f.
+            let first : Empty g ask s (without c v) = rw (h .others) at (w .none z) in
+            let second : Empty g ask (with s v) r = rw e at (y .none q) in
+            by-bit x v (λ i. second x (with-found (h .member) (h .beside) f i)) (λ n. first x (without-found v f n));
+      }

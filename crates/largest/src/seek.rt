@@ -1,0 +1,42 @@
+// The search for one k-plex of at least q members. It cuts as the list's search does, and stops at the first one.
+ghost use Prim.Native.Nat.{_≤_};
+ghost use Rattle.sets.specs.Words.{mask, masks};
+ghost use Rattle.judging.specs.Request.{request};
+ghost use Rattle.search.specs.Ready.{Ready};
+ghost use Rattle.largest.specs.Sought.{Sought};
+use sets::Set;
+
+// One k-plex of at least q members that holds s and has no member outside s and c. It is empty where nothing listed is there.
+// Candidates are sifted by pairs for the next `few` vertices taken.
+pub fn find(rows: &[u64], near: &[u64], k: usize, q: usize, few: usize, s: Set, c: Set) -> Set
+    requires { ⌜ Ready (masks (now rows)) (masks (now near)) (request k q) (mask s) (mask c) × (1 ≤ q) ⌝ }
+    ensures { λ r. ⌜ Sought (masks (now (rows .entry))) (request k q) (mask s) (mask c) (mask r) ⌝ }
+{
+    let a = sets::join(s, c);
+    if search::cut::is_short(rows, k, q, true, s, a) {
+        return sets::empty();
+    }
+    let seen = search::survey::survey(rows, k, a);
+    let free = seen.free;
+    let worst = seen.worst;
+    if seen.most <= k {
+        return a;
+    }
+    if search::cut::is_extendable(rows, k, true, a, free) {
+        return sets::empty();
+    }
+    let from = search::choice::among(rows, c, worst);
+    if sets::is_empty(from) {
+        return sets::empty();
+    }
+    let v = search::choice::pick(rows, a, from);
+    let rest = sets::without(c, v);
+    let close = search::trim::beside(rows, near, k, s, c, v);
+    let kept = search::trim::sift(rows, k, q, few, s, c, v, close);
+    let others = find(rows, near, k, q, few, s, rest);
+    if !sets::is_empty(others) {
+        return others;
+    }
+    let joined = sets::with(s, v);
+    find(rows, near, k, q, search::trim::fewer(few), joined, kept)
+}
