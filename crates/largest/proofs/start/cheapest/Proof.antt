@@ -1,0 +1,61 @@
+-- The best so far is always a candidate: the lowest at first, and later one that was looked at.
+use Prim.Native.Nat.{_<_}
+use Rattle.sets.specs.Words.{mask}
+use Rattle.sets.specs.SubsetLaws.{in-below, sub-refl}
+use Rattle.sets.specs.WalkLaws.{walk-falls, walk-below, walk-goes-on}
+use Rattle.search.specs.ChoiceLaws.{Choosing, choosing-same, choosing-more}
+use Rattle.largest.proofs.start.cheapest.Statement.{statement}
+use Rattle.largest.proofs.start.cheapest.Tie as tie
+
+abbrev Inv-loop : tie.InvT-loop
+Inv-loop rows heavy s c best₀ least₀ left₀ best least left = Choosing (mask left₀) (mask left) best
+
+abbrev μ-loop : tie.MeasureT-loop
+μ-loop rows heavy s c best₀ least₀ left₀ best least left = mask left
+
+-- the loop's record at this turn
+abbrev turn : tie.After-lowest2 Inv-loop μ-loop → tie.At-loop Inv-loop μ-loop
+turn c = c .before .before .before
+
+-- what is to come falls
+falls : (c : tie.After-rest Inv-loop μ-loop) → mask (c .rest .result) < mask (turn (c .before) .loop .left)
+falls c = walk-falls (c .before .lowest2 .ensures) (c .rest .ensures)
+
+lowest-requires : tie.Need-lowest-requires Inv-loop μ-loop
+lowest-requires c κs = c .before .pre .some
+
+cost-requires : tie.Need-cost-requires Inv-loop μ-loop
+cost-requires c κs = in-below _ _ _ (c .before .before .pre .below) (c .lowest .ensures .member)
+
+loop-holds : tie.Need-loop-holds Inv-loop μ-loop
+loop-holds c = record { member = c .before .lowest .ensures .member; part = sub-refl _ }
+
+lowest-requires-2 : tie.Need-lowest-requires-2 Inv-loop μ-loop
+lowest-requires-2 c κs = walk-goes-on (c .before .is-empty .ensures) (c .if1 .taken)
+
+rest-requires : tie.Need-rest-requires Inv-loop μ-loop
+rest-requires c κs = c .lowest2 .ensures
+
+cost-requires-2 : tie.Need-cost-requires-2 Inv-loop μ-loop
+cost-requires-2 c κs =
+    let at = turn (c .before) in
+    walk-below (at .before .before .before .before .pre .below) (at .loop .inv .part) (c .before .lowest2 .ensures)
+
+loop-again : tie.Need-loop-again Inv-loop μ-loop
+loop-again c =
+    let rest = c .before .before in
+    choosing-more (turn (rest .before) .loop .inv) (rest .before .lowest2 .ensures) (rest .rest .ensures)
+
+loop-again-2 : tie.Need-loop-again-2 Inv-loop μ-loop
+loop-again-2 c =
+    let rest = c .before .before in
+    choosing-same (turn (rest .before) .loop .inv) (rest .before .lowest2 .ensures) (rest .rest .ensures)
+
+returns : tie.Need-returns Inv-loop μ-loop
+returns c = c .before .before .loop .inv .member
+
+pub cheapest-spec : {M : Type 1} → statement M
+cheapest-spec =
+    tie.close
+    (tie.spec Inv-loop μ-loop lowest-requires cost-requires loop-holds (λ c κs. tt) lowest-requires-2 rest-requires cost-requires-2
+    (λ c. falls (c .before .before)) loop-again (λ c. falls (c .before .before)) loop-again-2 returns)
