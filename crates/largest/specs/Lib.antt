@@ -2,3 +2,4 @@
 pub mod Largest
 pub mod Calls
 pub mod Sought
+pub mod LargestLaws
