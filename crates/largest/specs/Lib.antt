@@ -3,3 +3,5 @@ pub mod Largest
 pub mod Calls
 pub mod Sought
 pub mod LargestLaws
+pub mod CallLaws
+pub mod OutcomeLaws
