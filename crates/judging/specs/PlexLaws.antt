@@ -1,4 +1,5 @@
--- Laws of k-plexes: the statement behind the test, also member by member; a part of a plex is a plex; a plex is maximal where no single vertex can be added.
+-- Laws of k-plexes: the statement behind the test, also member by member; parts of a plex and small sets are plexes; a plex is maximal where no single
+-- vertex can be added.
 use Prim.Native.Nat.{ℕ, _+_, _^_, _≤_, _<_}
 use native.Mathlib.Nat.{le-trans}
 use native.Mathlib.Omega.{arith}
@@ -47,6 +48,10 @@ module _ {g : List ℕ} {k s left : ℕ} (h : Inside g s) (w : Walked (λ v. mis
 -- a part of a plex is a plex
 pub hereditary : (g : List ℕ) (k s t : ℕ) → Sub s t → Plex g k t → Plex g k s
 hereditary g k s t h p v l e = le-trans (missing-mono g s t v h) (p v l (in-of-sub s t v h e))
+
+-- a set of at most k members is a plex
+pub small-plex : (g : List ℕ) (k s : ℕ) → size s ≤ k → Plex g k s
+small-plex g k s h v l e = omega (arith, degree-missing g s v)
 
 -- ---- maximal plexes
 

@@ -5,7 +5,7 @@
 use Prim.Native.Nat.{ℕ, zero, suc, _+_, _≤_, _<_, zero-le}
 use native.Mathlib.Nat.{not-suc-le-zero, add-zero, add-suc, suc-add, le-of-suc-le-suc}
 use native.Mathlib.Omega.{arith}
-use native.Mathlib.Decide.{ℕ-discrete}
+use native.Mathlib.Decide.{ℕ-discrete, decLe}
 use mathlib.Core.Path.{_≡_, refl, sym, ap, _∙_, subst}
 use mathlib.Core.Logic.{_≢_}
 use mathlib.Core.Bool.{Bool, true, false, cond}
@@ -64,6 +64,28 @@ pub greatest-le : (f : ℕ → ℕ) (xs : List ℕ) (b : ℕ) → ((x : ℕ) →
 unfolding greatest
 greatest-le f [] b h = zero-le
 greatest-le f (x ∷ xs) b h = omega (arith, h x (List·Memᴰ·head refl), greatest-le f xs b (λ y m. h y (List·Memᴰ·tail m)))
+
+pub greatest-ge : (f : ℕ → ℕ) (xs : List ℕ) (x : ℕ) → Mem x xs → f x ≤ greatest f xs
+unfolding greatest
+greatest-ge f (y ∷ ys) x (List·Memᴰ·head e) = omega (arith, ap f e)
+greatest-ge f (y ∷ ys) x (List·Memᴰ·tail m) = omega (arith, greatest-ge f ys x m)
+
+-- it is the value of an element, if there is any
+greatest-some : (f : ℕ → ℕ) (xs : List ℕ) → 0 < greatest f xs → (x : ℕ) × Mem x xs × (f x ≡ greatest f xs)
+unfolding greatest
+greatest-some f [] l = absurd (not-suc-le-zero l)
+greatest-some f (y ∷ ys) l = go (decLe (greatest f ys) (f y)) (greatest-some f ys)
+  where
+    go : Dec (greatest f ys ≤ f y) → (0 < greatest f ys → (x : ℕ) × Mem x ys × (f x ≡ greatest f ys)) → (x : ℕ) × Mem x (y ∷ ys) × (f x ≡ greatest f (y ∷ ys))
+    go (yes d) r = (y, List·Memᴰ·head refl, omega arith)
+    go (no nd) r = let z = r (omega arith) in (z .0, List·Memᴰ·tail (z .1), omega (arith, z .2))
+
+pub greatest-at : (f : ℕ → ℕ) (xs : List ℕ) (y : ℕ) → Mem y xs → (x : ℕ) × Mem x xs × (f x ≡ greatest f xs)
+greatest-at f xs y m = go (decLe (greatest f xs) (f y))
+  where
+    go : Dec (greatest f xs ≤ f y) → (x : ℕ) × Mem x xs × (f x ≡ greatest f xs)
+    go (yes d) = (y, m, omega (arith, greatest-ge f xs y m))
+    go (no nd) = greatest-some f xs (omega arith)
 
 -- ---- a part of a list
 

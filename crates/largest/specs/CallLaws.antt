@@ -1,0 +1,40 @@
+-- Laws of the call for the largest k-plex: from the outcome of the checks and from what the search found to what the call answers. The forced set is looked
+-- at last, as a k-plex.
+use Prim.Native.Nat.{ℕ}
+use mathlib.Core.Path.{_≡_, sym, ap, ap₂, _∙_}
+use mathlib.Core.Bool.{false, not}
+use mathlib.Core.List.{List, [], _∷_}
+use Rattle.sets.specs.Set.{size}
+use Rattle.sets.specs.RangeLaws.{is-true}
+use Rattle.judging.specs.Plex.{plex}
+use Rattle.judging.specs.PlexLaws.{plex-test, hereditary}
+use Rattle.judging.specs.Refusal.{refused, answered, firstOf}
+use Rattle.judging.specs.Calls.{refusal, passed, checkedReply, setCheck}
+use Rattle.judging.specs.RefusalLaws.{first-append, first-holds, first-skips, first-passed}
+use Rattle.judging.specs.CallLaws.{front-refused}
+use Rattle.judging.specs.declared.Refusal.{Refusal}
+use Rattle.judging.specs.declared.Checked.{Checked}
+use Rattle.judging.specs.declared.Checked.the-variants.{Failed}
+use Rattle.largest.specs.Largest.{largestSize, largestMask, Largest}
+use Rattle.largest.specs.Calls.{forcedCause, forcedCheck, largestReply}
+use Rattle.largest.specs.LargestLaws.{largest-size, largest-mask}
+
+module _ (g : List ℕ) (k f : ℕ) where
+  pub reply-refused : {r : Checked} {x : Refusal} → checkedReply r ≡ firstOf (setCheck g k f) passed → r ≡ Failed x → largestReply g k f ≡ refusal x
+  unfolding largestReply forcedCheck
+  reply-refused h e = sym (front-refused (setCheck g k f) (forcedCause g k f ∷ []) _ h e)
+
+  only-forced : firstOf (setCheck g k f) passed ≡ passed
+      → largestReply g k f ≡ firstOf (forcedCause g k f ∷ []) (answered (largestSize g k f) (largestMask g k f))
+  unfolding largestReply forcedCheck
+  only-forced e = first-append (setCheck g k f) _ _ ∙ first-passed (setCheck g k f) _ e
+
+  pub reply-forced : firstOf (setCheck g k f) passed ≡ passed → plex g k f ≡ false → largestReply g k f ≡ refused 11 0
+  unfolding forcedCause
+  reply-forced e n = only-forced e ∙ first-holds (forcedCause g k f) [] _ (ap not n)
+
+pub reply-found : {g : List ℕ} {k f s : ℕ} → firstOf (setCheck g k f) passed ≡ passed → Largest g k f s → largestReply g k f ≡ answered (size s) s
+unfolding forcedCause firstOf
+reply-found {g} {k} {f} {s} e h =
+    let p = is-true (plex g k f) (plex-test g k f (hereditary g k f s (h .holds .lower) (h .holds .plexed))) in
+    only-forced g k f e ∙ first-skips (forcedCause g k f) [] _ (ap not (sym p)) ∙ ap₂ answered (largest-size h) (largest-mask h)
