@@ -2,3 +2,5 @@
 pub mod Largest
 pub mod Calls
 pub mod Sought
+pub mod Colour
+pub mod ColourLaws

@@ -1,4 +1,6 @@
 // The largest k-plex that holds forced vertices, and the lowest mask of one of its size.
+mod cliques;
+
 use judging::Refusal;
 use sets::Set;
 
