@@ -4,3 +4,4 @@ pub mod Calls
 pub mod Sought
 pub mod Colour
 pub mod ColourLaws
+pub mod SeekLaws
