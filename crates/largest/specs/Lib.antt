@@ -2,6 +2,12 @@
 pub mod Largest
 pub mod Calls
 pub mod Sought
-pub mod SoughtLaws
 pub mod Fit
+pub mod Colour
+pub mod LargestLaws
+pub mod SoughtLaws
 pub mod FitLaws
+pub mod ColourLaws
+pub mod SeekLaws
+pub mod CallLaws
+pub mod OutcomeLaws

@@ -1,4 +1,5 @@
 // The largest k-plex that holds forced vertices, and the lowest mask of one of its size.
+mod cliques;
 mod seek;
 mod start;
 
