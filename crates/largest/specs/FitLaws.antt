@@ -24,7 +24,7 @@ use Rattle.largest.specs.Largest.{Holding}
 use Rattle.largest.specs.Fit.{Forced, Fitted, Joining, Growing}
 
 -- v joins s
-join-ready : {g t : List ℕ} {ask : Request} {s c v r j : ℕ} → Ready g t ask s c → In v c → Beside g ask s c v r → j ≡ with s v → Ready g t ask j r
+pub join-ready : {g t : List ℕ} {ask : Request} {s c v r j : ℕ} → Ready g t ask s c → In v c → Beside g ask s c v r → j ≡ with s v → Ready g t ask j r
 join-ready {g} {t} {ask} {s} {c} {v} {r} h i b e =
     let split : Split g t ask s c v r (without c v) = record { ready = h; member = i; beside = b; others = refl } in
     with-ready split e

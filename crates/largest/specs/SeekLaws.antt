@@ -19,44 +19,21 @@ use Rattle.sets.specs.PointLaws.{bit-with, in-single, single-in, single-out, by
 use Rattle.sets.specs.SubsetLaws.{sub-refl, sub-trans, sub-below, sub-number, sub-with, in-of-sub, in-below, with-same, without-same, with-below}
 use Rattle.sets.specs.SizeLaws.{size-mono, size-or, size-with}
 use Rattle.sets.specs.WalkLaws.{without-less}
-use Rattle.judging.specs.Request.{Request}
+use Rattle.judging.specs.Request.{Request, request}
 use Rattle.judging.specs.Setting.{Judgeable}
-use Rattle.search.specs.Found.{Empty, Near}
-use Rattle.search.specs.FoundLaws.{with-found, without-found}
+use Rattle.search.specs.Found.{Empty, Compatible, Near}
+use Rattle.search.specs.Ready.{Ready}
+use Rattle.search.specs.FoundLaws.{compatible-part, empty-part, with-found, without-found}
 use Rattle.search.specs.Trim.{Blocked, Cheap, Beside}
 use Rattle.search.specs.TrimLaws.{kept-near, trimmed-compatible}
 use Rattle.search.specs.CliqueLaws.{clique-adjacent, clique-near}
 use Rattle.largest.specs.Sought.{Within, Sought, Seeking}
+use Rattle.largest.specs.SoughtLaws.{sought-some, sought-none, within-with}
 use Rattle.largest.specs.Colour.{Coloured}
-
--- ---- what is given back
-
-module _ {g : List ℕ} {ask : Request} {s c r : ℕ} where
-  -- at least one member: a plex is not taken for none
-  pub sought-some : 1 ≤ ask .floor → Within g (ask .slack) (ask .floor) s c r → Sought g ask s c r
-  sought-some l w = record { some = λ p. w; none = λ z. absurd (omega (arith, l, w .large, ap size z, ones-le 0 0 (pow-pos 0))) }
-
-  pub sought-none : r ≡ 0 → Empty g ask s c → Sought g ask s c r
-  sought-none z e = record { some = λ p. absurd (omega (arith, p, z)); none = λ _. e }
-
--- what holds s and v, a candidate, holds s
-pub within-with : {g : List ℕ} {k q s d r : ℕ} (c v : ℕ) → In v c → Sub d c → Within g k q (with s v) d r → Within g k q s c r
-within-with {s = s} {d = d} {r = r} c v i p w =
-    record {
-      below = w .below;
-      plexed = w .plexed;
-      large = w .large;
-      lower = sub-trans s (with s v) r (sub-with s v) (w .lower);
-      upper = λ u. omega (arith, w .upper u, bit-or (with s v) d u, bit-with s v u, bit-or s c u, p u, single-in c v u i);
-    }
 
 -- ---- fewer candidates
 
 module _ {g : List ℕ} {ask : Request} {s c : ℕ} (d : ℕ) (p : Sub d c) where
-  pub empty-part : Empty g ask s c → Empty g ask s d
-  empty-part e x f =
-      e x (record { lower = f .lower; upper = λ u. omega (arith, f .upper u, bit-or s d u, bit-or s c u, p u); listed = f .listed })
-
   seek-part : {have : ℕ} → Seeking g ask have s c → Seeking g ask have s d
   seek-part h =
       record {
@@ -65,15 +42,21 @@ module _ {g : List ℕ} {ask : Request} {s c : ℕ} (d : ℕ) (p : Sub d c) wher
         slack = h .slack;
         floor = h .floor;
         counted = h .counted;
-        fine =
-            record {
-              below = h .fine .below;
-              candidates = sub-below (length g) d c p (h .fine .candidates);
-              apart = λ v i. h .fine .apart v (in-of-sub d c v p i);
-              plexed = h .fine .plexed;
-              joined = λ v i. h .fine .joined v (in-of-sub d c v p i);
-            };
+        fine = compatible-part d p (h .fine);
       }
+
+-- ---- from the search for any slack
+
+pub ready-seeking : {g t : List ℕ} {k q have s c : ℕ} → k ≡ 1 → Ready g t (request k q) s c → 1 ≤ q → have ≡ size s → Seeking g (request 1 q) have s c
+ready-seeking {g} {t} {k} {q} {have} {s} {c} one h l e =
+    record {
+      sized = h .settled .sized;
+      valid = h .settled .valid;
+      slack = refl;
+      floor = l;
+      counted = e;
+      fine = subst (λ (x : ℕ). Compatible g x s c) one (h .fine);
+    }
 
 -- ---- a clique s with the candidates c
 

@@ -2,8 +2,7 @@
 -- the branch with it decides.
 use Prim.Native.Nat.{ℕ, _^_, _≤_, _<_}
 use native.Mathlib.Omega.{arith}
-use native.Mathlib.Decide.{ℕ-discrete}
-use mathlib.Core.Path.{_≡_, sym, subst}
+use mathlib.Core.Path.{_≡_, ap}
 use mathlib.Core.List.{List}
 use lib.Dec.{T}
 use lib.Bits.{bitOr}
@@ -14,7 +13,7 @@ use Rattle.sets.specs.Set.{bit, In, Sub, size, with, without, minus}
 use Rattle.sets.specs.Graph.{row}
 use Rattle.sets.specs.BitLaws.{bit-or, bit-minus}
 use Rattle.sets.specs.PointLaws.{bit-with, single-in, by-bit}
-use Rattle.sets.specs.SubsetLaws.{sub-trans, sub-refl, sub-with, positive-of}
+use Rattle.sets.specs.SubsetLaws.{sub-trans, sub-refl, sub-with, minus-sub}
 use Rattle.judging.specs.Request.{Request}
 use Rattle.judging.specs.Graph.{missing}
 use Rattle.judging.specs.Plex.{Plex, extendable}
@@ -24,50 +23,67 @@ use Rattle.search.specs.Ready.{Whole, Split}
 use Rattle.search.specs.ReadyLaws.{whole-inside}
 use Rattle.largest.specs.Sought.{Within, Sought}
 
-pub sought-empty : {g : List ℕ} {ask : Request} {s c r : ℕ} → Empty g ask s c → r ≡ 0 → Sought g ask s c r
-sought-empty none z = record { some = λ l. absurd (omega (arith, z, l)); none = λ e. none }
+-- ---- what is given back
+
+module _ {g : List ℕ} {ask : Request} {s c r : ℕ} where
+  -- at least one member: a plex is not taken for none
+  pub sought-some : 1 ≤ ask .floor → Within g (ask .slack) (ask .floor) s c r → Sought g ask s c r
+  sought-some l w = record { some = λ p. w; none = λ z. absurd (omega (arith, l, w .large, ap size z, ones-le 0 0 (pow-pos 0))) }
+
+  pub sought-none : r ≡ 0 → Empty g ask s c → Sought g ask s c r
+  sought-none z e = record { some = λ p. absurd (omega (arith, p, z)); none = λ _. e }
+
+-- what holds s and v, a candidate, holds s
+pub within-with : {g : List ℕ} {k q s d r : ℕ} (c v : ℕ) → In v c → Sub d c → Within g k q (with s v) d r → Within g k q s c r
+within-with {s = s} {d = d} {r = r} c v i p w =
+    record {
+      below = w .below;
+      plexed = w .plexed;
+      large = w .large;
+      lower = sub-trans s (with s v) r (sub-with s v) (w .lower);
+      upper = λ u. omega (arith, w .upper u, bit-or (with s v) d u, bit-with s v u, bit-or s c u, p u, single-in c v u i);
+    }
+
+-- and what has fewer candidates has these
+pub within-part : {g : List ℕ} {k q s d r : ℕ} (c : ℕ) → Sub d c → Within g k q s d r → Within g k q s c r
+within-part {s = s} {d = d} c p w =
+    record {
+      below = w .below;
+      plexed = w .plexed;
+      large = w .large;
+      lower = w .lower;
+      upper = λ u. omega (arith, w .upper u, bit-or s d u, bit-or s c u, p u);
+    }
 
 -- ---- s and c together
 
 module _ {g t : List ℕ} {ask : Request} {s c a : ℕ} (h : Whole g t ask s c a) where
   pub sought-short : {r : ℕ} → Short g (ask .slack) (ask .floor) s a → r ≡ 0 → Sought g ask s c r
-  sought-short l = sought-empty (short-empty (h .whole) l)
+  sought-short l z = sought-none z (short-empty (h .whole) l)
 
   pub sought-extendable : {r : ℕ} → T (extendable g (ask .slack) a) → r ≡ 0 → Sought g ask s c r
-  sought-extendable l = sought-empty (extendable-empty (h .whole) (h .ready .settled .valid) l)
+  sought-extendable l z = sought-none z (extendable-empty (h .whole) (h .ready .settled .valid) l)
 
   pub sought-stuck : {r : ℕ} (w : ℕ) → In w a → ask .slack < missing g a w → (bit c w ≡ 0) × (minus c (row g w) ≡ 0) → r ≡ 0 → Sought g ask s c r
-  sought-stuck w i many z = sought-empty (stuck-empty (h .whole) w i (z .0) many (z .1))
+  sought-stuck w i many o z = sought-none z (stuck-empty (h .whole) w i (o .0) many (o .1))
 
   pub sought-leaf : Plex g (ask .slack) a → ask .floor ≤ size a → 1 ≤ ask .floor → Sought g ask s c a
   sought-leaf p l some =
-      record {
-        some = λ o.
-            record {
-              below = whole-inside h .below;
-              plexed = p;
-              large = l;
-              lower = λ u. rw (h .whole) (omega (arith, bit-or s c u));
-              upper = rw (h .whole) (sub-refl (bitOr s c));
-            };
-        none = λ z. absurd (omega (arith, l, some, subst (λ (x : ℕ). size x ≤ 0) (sym z) (ones-le 0 0 (pow-pos 0))));
-      }
+      sought-some some (record {
+        below = whole-inside h .below;
+        plexed = p;
+        large = l;
+        lower = λ u. rw (h .whole) (omega (arith, bit-or s c u));
+        upper = rw (h .whole) (sub-refl (bitOr s c));
+      })
 
 -- ---- with and without a vertex
 
 module _ {g t : List ℕ} {ask : Request} {s c v r rest o : ℕ} (h : Split g t ask s c v r rest) (w : Sought g ask s rest o) where
   pub sought-without : 0 < o → Sought g ask s c o
   sought-without l =
-      let found = w .some l in
       record {
-        some = λ l.
-            record {
-              below = found .below;
-              plexed = found .plexed;
-              large = found .large;
-              lower = found .lower;
-              upper = λ u. omega (arith, rw (h .others) at (found .upper u), bit-or s (without c v) u, bit-or s c u, bit-minus c (2 ^ v) u);
-            };
+        some = λ _. within-part c (minus-sub c (2 ^ v)) (rw (h .others) at (w .some l));
         none = λ z. absurd (omega (arith, z, l));
       }
 

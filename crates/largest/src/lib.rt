@@ -1,8 +1,23 @@
 // The largest k-plex that holds forced vertices, and the lowest mask of one of its size.
+ghost use mathlib.Core.Path.{_≡_};
+ghost use Prim.Native.Nat.{_≤_};
+ghost use Rattle.sets.specs.Set.{size};
+ghost use Rattle.sets.specs.Words.{width, mask, masks};
+ghost use Rattle.judging.specs.Request.{request};
+ghost use Rattle.search.specs.Ready.{Settled};
+ghost use Rattle.search.specs.NearRows.{Lent};
+ghost use Rattle.search.specs.Start.{Searchable};
+ghost use Rattle.largest.specs.Largest.{Holding, Largest};
+ghost use Rattle.largest.specs.Fit.{Forced};
+ghost use Rattle.largest.specs.Climb.{Held};
+ghost use Rattle.largest.specs.Calls.{largestReply, largestFoundReply};
+
 mod cliques;
+mod lowest;
 mod seek;
 mod start;
 
+use judging::Checked;
 use judging::Refusal;
 use sets::Set;
 
@@ -10,4 +25,81 @@ use sets::Set;
 pub enum LargestFound {
     Found(Set),
     Refused(Refusal),
+}
+
+// A first k-plex that holds f. The table is filled so that it drops nothing.
+fn first(rows: &[u64], k: usize, f: Set, near: &mut [u64]) -> Set
+    requires { ⌜ Searchable (masks (now rows)) (request k 0) × Forced (masks (now rows)) k (mask f) × Lent (masks (now rows)) (masks (now near)) ⌝ }
+    ensures { λ r. ⌜ Holding (masks (now (rows .entry))) k (mask f) (mask r) × Settled (masks (now (rows .entry))) (masks (now (near .exit))) (request k 0) ⌝ }
+{
+    let all = sets::full(sets::count(rows));
+    search::near::fill(rows, k, 0, all, false, false, near);
+    let c = start::fit(rows, near, k, 0, all, f);
+    start::first(rows, near, k, f, c)
+}
+
+// Fills the table for the floor `size`, unless that is done: `floor` is 0 before. Below 2k - 1 members a k-plex may fall apart, so the reach says nothing;
+// at slack 1 the table is not used.
+fn refill(rows: &[u64], k: usize, floor: usize, size: usize, near: &mut [u64]) -> usize
+    requires { ⌜ Settled (masks (now rows)) (masks (now near)) (request k floor) × (floor ≤ size) × (size ≤ width) ⌝ }
+    ensures { λ r. ⌜ Settled (masks (now (rows .entry))) (masks (now (near .exit))) (request k r) × (r ≤ size) ⌝ }
+{
+    if k == 1 {
+        return floor;
+    }
+    if 0 < floor {
+        return floor;
+    }
+    if size + 1 < 2 * k {
+        return floor;
+    }
+    let all = search::candidates(rows, k, size, true);
+    search::near::fill(rows, k, size, all, true, 2 * k <= size, near);
+    size
+}
+
+// A k-plex of at least q members that holds f; empty where there is none.
+fn holding(rows: &[u64], near: &[u64], k: usize, q: usize, f: Set) -> Set
+    requires { ⌜ Settled (masks (now rows)) (masks (now near)) (request k q) × Forced (masks (now rows)) k (mask f) × (1 ≤ q) ⌝ }
+    ensures { λ r. ⌜ Held (masks (now (rows .entry))) k q (mask f) (mask r) ⌝ }
+{
+    let all = search::candidates(rows, k, q, true);
+    let c = start::fit(rows, near, k, q, all, f);
+    seek::one(rows, near, k, q, f, c)
+}
+
+// The largest k-plex that holds f: a larger one is sought until there is none, and then the lowest of its size.
+fn climb(rows: &[u64], k: usize, f: Set) -> Set
+    requires { ⌜ Searchable (masks (now rows)) (request k 0) × Forced (masks (now rows)) k (mask f) ⌝ }
+    ensures { λ r. ⌜ Largest (masks (now (rows .entry))) k (mask f) (mask r) ⌝ }
+{
+    let n = sets::count(rows);
+    let mut near = [0u64; sets::TABLE];
+    let mut best = first(rows, k, f, &mut near);
+    let mut floor = 0;
+    while sets::size(best) < n {
+        let size = sets::size(best);
+        floor = refill(rows, k, floor, size, &mut near);
+        let larger = holding(rows, &near, k, size + 1, f);
+        if sets::is_empty(larger) {
+            return lowest::lowest(rows, &near, k, f, best);
+        }
+        best = larger;
+    }
+    lowest::lowest(rows, &near, k, f, best)
+}
+
+// The largest k-plex that holds the forced vertices, for the slack k, and of those of its size the one with the lowest mask. Nothing may be forced.
+// Refusals: 1, 2, 4, 5, 7, and 11 where the forced set is no k-plex. Cost: exponential in the worst case.
+pub fn largest(rows: &[u64], slack: usize, forced: Set) -> LargestFound
+    ensures { λ r. ⌜ largestFoundReply r ≡ largestReply (masks (now (rows .entry))) slack (mask forced) ⌝ }
+{
+    let checked = judging::check::check_set(rows, slack, forced);
+    if let Checked::Failed(f) = checked {
+        return LargestFound::Refused(f);
+    }
+    if !judging::plex::is_plex(rows, slack, forced) {
+        return LargestFound::Refused(Refusal::Forced);
+    }
+    LargestFound::Found(climb(rows, slack, forced))
 }

@@ -13,7 +13,7 @@ use Rattle.sets.specs.Graph.{row}
 use Rattle.sets.specs.RangeLaws.{and-left, and-right, both, or-cases, or-left, or-right, test-same}
 use Rattle.sets.specs.BitLaws.{bit-le, bit-or, bit-minus}
 use Rattle.sets.specs.PointLaws.{bit-none, bit-with, single-in, single-out, by-bit}
-use Rattle.sets.specs.SubsetLaws.{subset-sub, sub-subset, sub-trans, in-below, with-sub, with-same, sub-with, without-same}
+use Rattle.sets.specs.SubsetLaws.{subset-sub, sub-subset, sub-trans, sub-below, in-of-sub, in-below, with-sub, with-same, sub-with, without-same}
 use Rattle.sets.specs.SizeLaws.{size-mono}
 use Rattle.judging.specs.Request.{Request}
 use Rattle.judging.specs.Graph.{missing, Valid}
@@ -25,7 +25,7 @@ use Rattle.bounds.specs.BoundSound.{second-sound}
 use Rattle.lists.specs.Listing.{listed}
 use Rattle.lists.specs.ListingLaws.{listed-holds, listed-test}
 use Rattle.lists.specs.Placing.{Apart, union}
-use Rattle.search.specs.Found.{found, Found, Empty, Short}
+use Rattle.search.specs.Found.{found, Found, Empty, Compatible, Short}
 use Rattle.search.specs.TrimLaws.{kept-found}
 use Rattle.search.specs.Trim.{Beside}
 
@@ -109,6 +109,23 @@ bounded-empty {g} {ask} {s} {c} {v} b e z l x f =
   where
     upper : Sub x (bitOr s (with c v))
     upper u = omega (arith, f .upper u, bit-or (with s v) c u, bit-with s v u, bit-or s (with c v) u, bit-with c v u)
+
+-- ---- fewer candidates
+
+module _ {s c : ℕ} (d : ℕ) (p : Sub d c) where
+  pub compatible-part : {g : List ℕ} {k : ℕ} → Compatible g k s c → Compatible g k s d
+  compatible-part {g} h =
+      record {
+        below = h .below;
+        candidates = sub-below (length g) d c p (h .candidates);
+        apart = λ v i. h .apart v (in-of-sub d c v p i);
+        plexed = h .plexed;
+        joined = λ v i. h .joined v (in-of-sub d c v p i);
+      }
+
+  pub empty-part : {g : List ℕ} {ask : Request} → Empty g ask s c → Empty g ask s d
+  empty-part e x f =
+      e x (record { lower = f .lower; upper = λ u. omega (arith, f .upper u, bit-or s d u, bit-or s c u, p u); listed = f .listed })
 
 -- ---- with and without a candidate v
 

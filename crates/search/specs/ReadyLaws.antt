@@ -24,7 +24,7 @@ use Rattle.lists.specs.Placing.{union, Adds, unless}
 use Rattle.lists.specs.PlacingLaws.{adds-none, adds-same, adds-both}
 use Rattle.search.specs.Found.{found, Empty, Compatible, Short}
 use Rattle.search.specs.FoundLaws.{found-holds, found-test, cut-none, short-empty, stuck-empty, extendable-empty, leaf-found, leaf-only}
-use Rattle.search.specs.FoundLaws.{branches, branches-apart, branch-without}
+use Rattle.search.specs.FoundLaws.{compatible-part, branches, branches-apart, branch-without}
 use Rattle.search.specs.Partition.{Between}
 use Rattle.search.specs.TrimLaws.{trimmed-compatible}
 use Rattle.search.specs.Trim.{Trimmable, Joinable, Beside}
@@ -142,19 +142,8 @@ module _ {g t : List ℕ} {ask : Request} {s c v r rest : ℕ} (h : Split g t as
 
   pub without-ready : Ready g t ask s rest
   without-ready =
-      let fine = h .ready .fine in
       rw (h .others)
-      (record {
-        settled = h .ready .settled;
-        fine =
-            record {
-              below = fine .below;
-              candidates = minus-below (length g) c (2 ^ v) (fine .candidates);
-              apart = λ w j. fine .apart w (in-of-sub (without c v) c w (minus-sub c (2 ^ v)) j);
-              plexed = fine .plexed;
-              joined = λ w j. fine .joined w (in-of-sub (without c v) c w (minus-sub c (2 ^ v)) j);
-            };
-      })
+      (record { settled = h .ready .settled; fine = compatible-part (without c v) (minus-sub c (2 ^ v)) (h .ready .fine) })
 
   module _ {before between : List ℕ} {count n : ℕ} (x : Adds (2 ^ length g) (found g ask s rest) before count between n) where
     -- where the branch with v is cut, the other has added all

@@ -28,8 +28,8 @@ use Rattle.lists.specs.Placing.{Adds}
 use Rattle.lists.specs.PlacingLaws.{adds-same}
 use Rattle.search.specs.Found.{found, Compatible, Near}
 use Rattle.search.specs.FoundLaws.{found-holds, found-test}
-use Rattle.search.specs.NearRows.{Pairing}
-use Rattle.search.specs.Ready.{Ready}
+use Rattle.search.specs.NearRows.{Pairing, Filled}
+use Rattle.search.specs.Ready.{Settled, Ready}
 use Rattle.search.specs.Cliques.{Common, Taking}
 use Rattle.search.specs.CliqueLaws.{clique-adjacent}
 use Rattle.search.specs.Start.{Searchable, Accepted, Candidates, Startable}
@@ -106,6 +106,15 @@ module _ {g : List ℕ} {ask : Request} {s c : ℕ} (e : s ≡ 0) (d : Candidate
   pub start-adds : {before after : List ℕ} {m : ℕ} → Adds (2 ^ length g) (found g ask s c) before 0 after m
       → Adds (2 ^ length g) (listed g ask) before 0 after m
   start-adds x = adds-same (2 ^ length g) (found g ask s c) (listed g ask) _ _ 0 _ start-found x
+
+-- ---- what stays put
+
+pub settled-searchable : {g t : List ℕ} {ask : Request} → Settled g t ask → Searchable g ask
+settled-searchable h = record { sized = h .sized; valid = h .valid; slack = h .slack; floor = h .floor }
+
+pub filled-settled : {g before t : List ℕ} {ask : Request} → Searchable g ask → length g ≤ length before → Filled g ask before t → Settled g t ask
+filled-settled a l f =
+    record { sized = a .sized; valid = a .valid; slack = a .slack; floor = a .floor; long = omega (arith, l, f .long); near = f .near }
 
 -- ---- from anywhere
 

@@ -11,7 +11,8 @@ use Rattle.judging.specs.Request.{request}
 use Rattle.sets.specs.Words.{mask, masks}
 use Rattle.sets.specs.WalkLaws.{walk-falls, walk-goes-on, walk-over}
 use Rattle.largest.specs.ColourLaws.{coloured-size}
-use Rattle.largest.specs.SeekLaws.{sought-none, seek-fits, seek-judgeable, seek-large, coloured-empty, coloured-candidates, coloured-sweeping}
+use Rattle.largest.specs.SoughtLaws.{sought-none}
+use Rattle.largest.specs.SeekLaws.{seek-fits, seek-judgeable, seek-large, coloured-empty, coloured-candidates, coloured-sweeping}
 use Rattle.largest.specs.SeekLaws.{Step, step, Swept, swept-none, swept-vertex, swept-seeking, swept-falls, swept-some, swept-next, swept-all}
 use Rattle.largest.proofs.cliques.clique.Reads as clique
 use Rattle.largest.proofs.cliques.clique.Kinds as clique-kinds
