@@ -18,6 +18,7 @@
  *         8  the text is not a sheet                                    the first line that is wrong, from 1
  *         9  the buffer for rows or text is too short                   the length needed
  *        10  s and v are no k-plex, v is not in c, or s and c overlap   0
+ *        11  the forced set is no k-plex                                0
  *
  * A refusal leaves every buffer as it was, but for 6, which makes all slots 0. Nothing is allocated or kept between calls, and calls may run at the same
  * time on other buffers. The caller sees to it that a pointer is not null, is aligned, and has as many elements behind it as the length after it says
@@ -88,6 +89,10 @@ enum {
 /* The same list, by a search with just these cuts switched on. It is there to measure the cuts: the answer is the same for every word of flags, and only
  * the time differs. kadvisk_list has all of them on but KADVISK_SECOND. Other bits are not looked at. */
 kadvisk_outcome kadvisk_list_with(const uint64_t *rows, size_t n, size_t slack, size_t floor, uint64_t flags, uint64_t *slots, size_t room);
+
+/* The largest k-plex that holds all vertices of the set `forced`, which may be empty; there is no floor. Value: its size. Found: of the k-plexes of that
+ * size that hold them all the lowest mask; it is a maximal k-plex. Refusals, in this order: 1, 2, 4, 5, 7, 11. */
+kadvisk_outcome kadvisk_largest(const uint64_t *rows, size_t n, size_t slack, uint64_t forced);
 
 /* Reads a sheet: line 1 has n, k and q in two hexadecimal digits each, capitals for A to F, then each row has a line of 16, and every line ends in byte 10.
  * The first n of the rows become the graph, and the later ones keep what they held. Refusals, in this order: 8 at line 1, 1, 2, 3, 8, 4, 5, 9. */

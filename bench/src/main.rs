@@ -1,13 +1,15 @@
-//! Times the library on graphs of our own making: with each cut switched, against independent implementations, what placing costs, and how the time grows.
+//! Times the library on graphs of our own making: with each cut switched, against independent implementations, what placing costs, how the time
+//! grows, and the largest k-plex.
 //! Prints tables in Markdown. One command:
 //!
 //!   cargo run --release --offline --package bench
 //!
-//!   bench --part NAME     cuts, placing or growth alone, or wide: many instances of other kinds
-//!   bench --only NAME     the rows of one graph in the table of cuts
+//!   bench --part NAME     cuts, placing, growth or largest alone, or wide: many instances of other kinds
+//!   bench --only NAME     the rows of one graph in the tables of cuts and of the largest k-plex
 //!   bench --rivals        the table of cuts with the independent implementations alone
 //!   bench --limit S       leave a run that takes more than S seconds (3)
 mod clock;
+mod largest;
 mod rows;
 mod variants;
 mod wide;
@@ -61,17 +63,22 @@ fn count_apart(row: usize, variant: usize, limit: Duration) -> Option<usize> {
     Some(said.trim().parse().expect("a count"))
 }
 
-/// The time of the first of these variants, and the ratio of each to it. They run in turns, so that what else the machine does meets them alike: each
-/// ratio is taken within its round, and the median over the rounds is given. A first run of each is the warm-up.
-fn in_turns(row: &Row, variants: &[usize]) -> (f64, Vec<f64>) {
-    let graph = (row.graph)();
-    let run = |i: usize| VARIANTS[i].count(&graph, row.k, row.q);
-    let firsts: Vec<f64> = variants.iter().map(|&i| clock::timed(|| run(i)).1).collect();
-    let rounds = ((6000.0 / firsts.iter().sum::<f64>()) as usize).clamp(5, 15);
-    let round = || -> Vec<f64> { variants.iter().zip(&firsts).map(|(&i, &first)| once(first, || run(i))).collect() };
+/// The time of the first of so many runs, and the ratio of each to it. They run in turns, so that what else the machine does meets them alike: each
+/// ratio is taken within its round, and the median over the rounds is given. A first run of each is the warm-up. There are 5 to 15 rounds, by the time
+/// in ms that they may take.
+fn turns(runs: usize, most: f64, run: impl Fn(usize) -> usize) -> (f64, Vec<f64>) {
+    let firsts: Vec<f64> = (0..runs).map(|i| clock::timed(|| run(i)).1).collect();
+    let rounds = ((most / firsts.iter().sum::<f64>()) as usize).clamp(5, 15);
+    let round = || -> Vec<f64> { firsts.iter().enumerate().map(|(i, &first)| once(first, || run(i))).collect() };
     let times: Vec<Vec<f64>> = (0..rounds).map(|_| round()).collect();
     let ratio = |i: usize| median(times.iter().map(|round| round[i] / round[0]).collect());
-    (median(times.iter().map(|round| round[0]).collect()), (0..variants.len()).map(ratio).collect())
+    (median(times.iter().map(|round| round[0]).collect()), (0..runs).map(ratio).collect())
+}
+
+/// The time of the first of these variants, and the ratio of each to it.
+fn in_turns(row: &Row, variants: &[usize]) -> (f64, Vec<f64>) {
+    let graph = (row.graph)();
+    turns(variants.len(), 6000.0, |i| VARIANTS[variants[i]].count(&graph, row.k, row.q))
 }
 
 /// The same in a process of its own.
@@ -212,6 +219,10 @@ fn main() {
         wide::one(arguments[1].parse().expect("a graph"), arguments[2].parse().expect("a slack"));
         return;
     }
+    if arguments.first().is_some_and(|first| first.starts_with("--largest")) {
+        largest::one(&arguments);
+        return;
+    }
     let limit = Duration::from_secs(after("--limit").map_or(3, |s| s.parse().expect("seconds")));
     let part = |name| after("--part").is_none_or(|part| part == name);
     if part("cuts") {
@@ -222,6 +233,9 @@ fn main() {
     }
     if part("growth") && after("--only").is_none() {
         growth();
+    }
+    if part("largest") {
+        largest::all(after("--only"), limit);
     }
     if after("--part") == Some("wide") {
         wide::all();

@@ -1,4 +1,5 @@
-/* Five vertices in a ring: judges a set, takes the core, lists the maximal 2-plexes of three or more vertices, and writes and reads the sheet. */
+/* Five vertices in a ring: judges a set, takes the core, lists the maximal 2-plexes of three or more vertices, finds the largest that holds a
+ * vertex, and writes and reads the sheet. */
 #include <inttypes.h>
 #include <stdio.h>
 
@@ -30,6 +31,10 @@ int main(void) {
     /* too few slots: the refusal gives the exact number */
     list = kadvisk_list(ring, 5, 2, 3, slots, 4);
     refusal(list.number, list.value);
+
+    /* 08 forces vertex 3 */
+    kadvisk_outcome largest = kadvisk_largest(ring, 5, 2, 0x08);
+    printf("largest 2-plex with vertex 3: %02" PRIX64 ", size %zu\n", largest.found, largest.value);
 
     kadvisk_outcome sheet = kadvisk_write_sheet(ring, 5, 2, 3, text, sizeof text);
     fwrite(text, 1, sheet.value, stdout);

@@ -1,4 +1,4 @@
-//! Five vertices in a ring: judges a set, takes the core, and lists the maximal 2-plexes of three or more vertices.
+//! Five vertices in a ring: judges a set, takes the core, lists the maximal 2-plexes of three or more vertices, and finds the largest with a given vertex.
 
 fn main() -> Result<(), kadvisk::Refusal> {
     let ring = [0x12, 0x05, 0x0A, 0x14, 0x09];
@@ -7,6 +7,8 @@ fn main() -> Result<(), kadvisk::Refusal> {
     for mask in kadvisk::list_all(&ring, 2, 3)? {
         println!("{mask:02X}");
     }
+    let largest = kadvisk::largest(&ring, 2, 0x08)?;
+    println!("largest 2-plex with vertex 3: {:02X}, size {}", largest.mask, largest.size);
     if let Err(refusal) = kadvisk::list(&ring, 33, 64, &mut []) {
         println!("R{:02} {:016X}: {refusal}", refusal.number(), refusal.value());
     }

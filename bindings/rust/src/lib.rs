@@ -43,10 +43,12 @@ pub enum Refusal {
     Room(usize),
     /// 10: s and v are no k-plex, v is not in c, or s and c overlap.
     Bound,
+    /// 11: the forced set is no k-plex.
+    Forced,
 }
 
 impl Refusal {
-    /// The refusal of this number and value; none where the number is not 1 to 10.
+    /// The refusal of this number and value; none where the number is not 1 to 11.
     pub fn new(number: usize, value: usize) -> Option<Refusal> {
         Some(match number {
             1 => Refusal::Vertices,
@@ -59,11 +61,12 @@ impl Refusal {
             8 => Refusal::Line(value),
             9 => Refusal::Room(value),
             10 => Refusal::Bound,
+            11 => Refusal::Forced,
             _ => return None,
         })
     }
 
-    /// The number of this refusal, 1 to 10.
+    /// The number of this refusal, 1 to 11.
     pub fn number(self) -> usize {
         match self {
             Refusal::Vertices => 1,
@@ -76,6 +79,7 @@ impl Refusal {
             Refusal::Line(_) => 8,
             Refusal::Room(_) => 9,
             Refusal::Bound => 10,
+            Refusal::Forced => 11,
         }
     }
 
@@ -101,6 +105,7 @@ impl fmt::Display for Refusal {
             Refusal::Line(l) => write!(f, "line {l} of the sheet is not as laid out"),
             Refusal::Room(n) => write!(f, "the buffer is too short: {n} are needed"),
             Refusal::Bound => write!(f, "s and v are no k-plex, v is not in c, or s and c overlap"),
+            Refusal::Forced => write!(f, "the forced set is no k-plex"),
         }
     }
 }
@@ -147,6 +152,15 @@ pub struct Heading {
     pub vertices: usize,
     pub slack: usize,
     pub floor: usize,
+}
+
+/// The largest k-plex that holds forced vertices.
+#[derive(Clone, Copy, Debug, PartialEq, Eq)]
+pub struct Largest {
+    /// How many members it has.
+    pub size: usize,
+    /// The lowest mask of a k-plex of that size that holds them.
+    pub mask: u64,
 }
 
 fn answered(number: usize, value: usize) -> Result<(), Refusal> {
@@ -241,6 +255,23 @@ pub fn list_all(rows: &[u64], slack: usize, floor: usize) -> Result<Vec<u64>, Re
     let mut slots = vec![0; count(rows, slack, floor)?];
     list(rows, slack, floor, &mut slots)?;
     Ok(slots)
+}
+
+/// The largest k-plex that holds all vertices of `forced`, and of the k-plexes of that size that hold them all the one with the lowest mask, which is a
+/// maximal k-plex. Nothing is forced by the empty set, 0, and there is no floor.
+///
+/// Refusals, in this order: 1, 2, 4, 5, 7, 11.
+///
+/// ```
+/// // five vertices in a ring, slack 2: three in a row are the most, and of those with vertex 2 the lowest are 0, 1 and 2
+/// let ring = [0x12, 0x05, 0x0A, 0x14, 0x09];
+/// let largest = kadvisk::largest(&ring, 2, 0x04)?;
+/// assert_eq!((largest.size, largest.mask), (3, 0x07));
+/// # Ok::<(), kadvisk::Refusal>(())
+/// ```
+pub fn largest(rows: &[u64], slack: usize, forced: u64) -> Result<Largest, Refusal> {
+    let outcome = unsafe { ffi::kadvisk_largest(rows.as_ptr(), rows.len(), slack, forced) };
+    found(outcome).map(|mask| Largest { size: outcome.value, mask })
 }
 
 /// Reads the sheet in `text`: n rows are stored in the first of `rows`, and later ones keep their contents.

@@ -1,5 +1,5 @@
 //! The safe functions: what they make of outcomes and refusals.
-use kadvisk::{Cuts, Heading, Refusal};
+use kadvisk::{Cuts, Heading, Largest, Refusal};
 
 const RING: [u64; 5] = [0x12, 0x05, 0x0A, 0x14, 0x09];
 const LIST: [u64; 5] = [0x07, 0x0E, 0x13, 0x19, 0x1C];
@@ -35,6 +35,16 @@ fn lists() {
 }
 
 #[test]
+fn largest() {
+    assert_eq!(kadvisk::largest(&RING, 2, 0), Ok(Largest { size: 3, mask: 0x07 }));
+    assert_eq!(kadvisk::largest(&RING, 2, 0x08), Ok(Largest { size: 3, mask: 0x0E }));
+    assert_eq!(kadvisk::largest(&RING, 2, 0x14), Ok(Largest { size: 3, mask: 0x1C }));
+    assert_eq!(kadvisk::largest(&RING, 1, 0x10), Ok(Largest { size: 2, mask: 0x11 }));
+    assert_eq!(kadvisk::largest(&RING, 3, 0x1F), Ok(Largest { size: 5, mask: 0x1F }));
+    assert_eq!(kadvisk::largest(&RING, 2, 0x20), Err(Refusal::Outside));
+}
+
+#[test]
 fn sheets() {
     let mut text = [b'.'; 100];
     assert_eq!(kadvisk::write_sheet(&RING, 2, 3, &mut text), Ok(92));
@@ -59,11 +69,12 @@ fn refusals() {
         (kadvisk::read_sheet(b"050203\n", &mut []).map(|_| 0), Refusal::Line(2)),
         (kadvisk::write_sheet(&RING, 2, 3, &mut text), Refusal::Room(92)),
         (kadvisk::first_bound(&RING, 2, 1, 1, 0), Refusal::Bound),
+        (kadvisk::largest(&RING, 1, 0x05).map(|_| 0), Refusal::Forced),
     ] {
         assert_eq!(answer, Err(refusal));
         assert_eq!(Refusal::new(refusal.number(), refusal.value()), Some(refusal));
         assert!(!refusal.to_string().is_empty());
     }
     assert_eq!(Refusal::new(0, 0), None);
-    assert_eq!(Refusal::new(11, 0), None);
+    assert_eq!(Refusal::new(12, 0), None);
 }

@@ -6,6 +6,7 @@
 //!   brute      the list by trying all sets, up to 16 vertices
 //!   fp         the list by the published algorithm (Dai and others; degeneracy seeds, excluded set, second bound)
 //!   cliques    the list for slack 1 by Bron and Kerbosch with Tomita's pivot
+//!   largest    the largest k-plex that holds forced vertices, by trying all sets and by 003's algorithm
 //!   instances  graphs of our own making
 //!   calls      the exported calls on slices
 //!   cases      inputs that several tests share
@@ -15,6 +16,7 @@ pub mod cases;
 pub mod cliques;
 pub mod fp;
 pub mod instances;
+pub mod largest;
 pub mod plain;
 pub mod refusals;
 pub mod text;

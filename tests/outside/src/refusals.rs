@@ -57,3 +57,8 @@ pub fn bound(rows: &[u64], k: usize, s: u64, c: u64, v: usize) -> Refused {
     let misplaced = || when(!is_plex(rows, k, s | 1 << v) || c >> v & 1 == 0 || s & c != 0, 10, 0);
     vertices(n).or_else(|| slack(k)).or_else(|| edges(rows)).or_else(outside).or_else(misplaced)
 }
+
+/// 1, 2, 4, 5, 7, 11: of the largest k-plex.
+pub fn largest(rows: &[u64], k: usize, forced: u64) -> Refused {
+    judging(rows, k, forced).or_else(|| when(!is_plex(rows, k, forced), 11, 0))
+}

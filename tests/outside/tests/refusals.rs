@@ -30,7 +30,7 @@ fn set(rng: &mut Rng, n: usize) -> u64 {
     }
 }
 
-struct Tally([usize; 11]);
+struct Tally([usize; 12]);
 
 impl Tally {
     /// Holds an outcome to the refusal that is owed, or to what is found.
@@ -41,13 +41,13 @@ impl Tally {
 
     fn all_of(&self, numbers: &[usize]) {
         println!("outcomes by number: {:?}", self.0);
-        assert!((0..11).all(|number| (self.0[number] > 10) == numbers.contains(&number)), "{:?}", self.0);
+        assert!((0..12).all(|number| (self.0[number] > 10) == numbers.contains(&number)), "{:?}", self.0);
     }
 }
 
 #[test]
 fn judging() {
-    let (mut rng, mut tally) = (Rng(30), Tally([0; 11]));
+    let (mut rng, mut tally) = (Rng(30), Tally([0; 12]));
     for _ in 0..many(20_000) {
         let (rows, k) = (table(&mut rng), slack(&mut rng));
         let s = set(&mut rng, rows.len());
@@ -60,7 +60,7 @@ fn judging() {
 
 #[test]
 fn core_and_reach() {
-    let (mut rng, mut cores, mut reaches) = (Rng(31), Tally([0; 11]), Tally([0; 11]));
+    let (mut rng, mut cores, mut reaches) = (Rng(31), Tally([0; 12]), Tally([0; 12]));
     for _ in 0..many(20_000) {
         let (rows, k) = (table(&mut rng), slack(&mut rng));
         let q = floor(&mut rng, k);
@@ -74,7 +74,7 @@ fn core_and_reach() {
 
 #[test]
 fn bounds() {
-    let (mut rng, mut tally) = (Rng(32), Tally([0; 11]));
+    let (mut rng, mut tally) = (Rng(32), Tally([0; 12]));
     for _ in 0..many(20_000) {
         let (rows, k) = (table(&mut rng), slack(&mut rng));
         let (s, c) = (set(&mut rng, rows.len()) & set(&mut rng, rows.len()), set(&mut rng, rows.len()));
@@ -89,7 +89,7 @@ fn bounds() {
 
 #[test]
 fn lists() {
-    let (mut rng, mut tally) = (Rng(33), Tally([0; 11]));
+    let (mut rng, mut tally) = (Rng(33), Tally([0; 12]));
     for _ in 0..many(10_000) {
         let (mut rows, k) = (table(&mut rng), slack(&mut rng));
         rows.truncate(if rng.chance(0.9) { 24 } else { 200 });
@@ -123,8 +123,31 @@ fn lists() {
 }
 
 #[test]
+fn largest_plexes() {
+    let (mut rng, mut tally) = (Rng(35), Tally([0; 12]));
+    for _ in 0..many(10_000) {
+        let (mut rows, k) = (table(&mut rng), slack(&mut rng));
+        rows.truncate(if rng.chance(0.9) { 16 } else { 200 });
+        if rng.chance(0.8) {
+            let n = rows.len();
+            rows.iter_mut().for_each(|row| *row &= (1u64 << n.min(63)) - 1);
+        }
+        let forced = set(&mut rng, rows.len()) & set(&mut rng, rows.len());
+        let owed = refusals::largest(&rows, k, forced);
+        if owed.is_none() && rows.len() > 16 {
+            continue;
+        }
+        tally.hold(largest(&rows, k, forced), owed, || {
+            let (size, mask) = outside::largest::plain(&rows, k, forced);
+            success(size, mask)
+        });
+    }
+    tally.all_of(&[0, 1, 2, 4, 5, 7, 11]);
+}
+
+#[test]
 fn writing() {
-    let (mut rng, mut tally) = (Rng(34), Tally([0; 11]));
+    let (mut rng, mut tally) = (Rng(34), Tally([0; 12]));
     for _ in 0..many(10_000) {
         let (rows, k) = (table(&mut rng), slack(&mut rng));
         let q = floor(&mut rng, k);
