@@ -56,6 +56,10 @@ fitted-held fit w =
 pub held-top : {g : List ℕ} {k f w q r : ℕ} → Holding g k f w → q ≡ size w + 1 → Held g k q f r → r ≡ 0 → Top g k f w
 held-top h e n z = record { holds = h; top = λ t y. omega (arith, n .none z t y, e) }
 
+-- no plex has more members than there are vertices
+pub all-top : {g : List ℕ} {k f w : ℕ} → Holding g k f w → length g ≤ size w → Top g k f w
+all-top {g} h l = record { holds = h; top = λ t y. omega (arith, ones-le (length g) t (y .below), l) }
+
 -- ---- the highest member
 
 pub topmost-none : {s v : ℕ} → Lowest s v → Topmost s s v

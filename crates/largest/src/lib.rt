@@ -6,7 +6,7 @@ ghost use Rattle.sets.specs.Words.{width, mask, masks};
 ghost use Rattle.judging.specs.Request.{request};
 ghost use Rattle.search.specs.Ready.{Settled};
 ghost use Rattle.search.specs.NearRows.{Lent};
-ghost use Rattle.search.specs.Start.{Searchable};
+ghost use Rattle.search.specs.Start.{Searchable, Candidates};
 ghost use Rattle.largest.specs.Largest.{Holding, Largest};
 ghost use Rattle.largest.specs.Fit.{Forced};
 ghost use Rattle.largest.specs.Climb.{Held};
@@ -27,13 +27,12 @@ pub enum LargestFound {
     Refused(Refusal),
 }
 
-// A first k-plex that holds f. The table is filled so that it drops nothing.
-fn first(rows: &[u64], k: usize, f: Set, near: &mut [u64]) -> Set
-    requires { ⌜ Searchable (masks (now rows)) (request k 0) × Forced (masks (now rows)) k (mask f) × Lent (masks (now rows)) (masks (now near)) ⌝ }
-    ensures { λ r. ⌜ Holding (masks (now (rows .entry))) k (mask f) (mask r) × Settled (masks (now (rows .entry))) (masks (now (near .exit))) (request k 0) ⌝ }
+// A first k-plex that holds f. The table drops nothing: it serves the floor 0.
+fn first(rows: &[u64], near: &[u64], k: usize, all: Set, f: Set) -> Set
+    requires { ⌜ Settled (masks (now rows)) (masks (now near)) (request k 0) × Candidates (masks (now rows)) (request k 0) (mask all)
+        × Forced (masks (now rows)) k (mask f) ⌝ }
+    ensures { λ r. ⌜ Holding (masks (now (rows .entry))) k (mask f) (mask r) ⌝ }
 {
-    let all = sets::full(sets::count(rows));
-    search::near::fill(rows, k, 0, all, false, false, near);
     let c = start::fit(rows, near, k, 0, all, f);
     start::first(rows, near, k, f, c)
 }
@@ -68,25 +67,35 @@ fn holding(rows: &[u64], near: &[u64], k: usize, q: usize, f: Set) -> Set
     seek::one(rows, near, k, q, f, c)
 }
 
-// The largest k-plex that holds f: a larger one is sought until there is none, and then the lowest of its size.
-fn climb(rows: &[u64], k: usize, f: Set) -> Set
-    requires { ⌜ Searchable (masks (now rows)) (request k 0) × Forced (masks (now rows)) k (mask f) ⌝ }
+// The largest k-plex that holds f: a larger one is sought until there is none, and then the lowest of its size. The table is a lent one.
+fn climb(rows: &[u64], k: usize, f: Set, near: &mut [u64]) -> Set
+    requires { ⌜ Searchable (masks (now rows)) (request k 0) × Forced (masks (now rows)) k (mask f) × Lent (masks (now rows)) (masks (now near)) ⌝ }
     ensures { λ r. ⌜ Largest (masks (now (rows .entry))) k (mask f) (mask r) ⌝ }
 {
     let n = sets::count(rows);
-    let mut near = [0u64; sets::TABLE];
-    let mut best = first(rows, k, f, &mut near);
+    let all = sets::full(n);
+    search::near::fill(rows, k, 0, all, false, false, near);
+    let mut best = first(rows, near, k, all, f);
     let mut floor = 0;
     while sets::size(best) < n {
         let size = sets::size(best);
-        floor = refill(rows, k, floor, size, &mut near);
-        let larger = holding(rows, &near, k, size + 1, f);
+        floor = refill(rows, k, floor, size, near);
+        let larger = holding(rows, near, k, size + 1, f);
         if sets::is_empty(larger) {
-            return lowest::lowest(rows, &near, k, f, best);
+            return lowest::lowest(rows, near, k, f, best);
         }
         best = larger;
     }
-    lowest::lowest(rows, &near, k, f, best)
+    lowest::lowest(rows, near, k, f, best)
+}
+
+// The same with a table of its own.
+fn climb_apart(rows: &[u64], k: usize, f: Set) -> Set
+    requires { ⌜ Searchable (masks (now rows)) (request k 0) × Forced (masks (now rows)) k (mask f) ⌝ }
+    ensures { λ r. ⌜ Largest (masks (now (rows .entry))) k (mask f) (mask r) ⌝ }
+{
+    let mut near = [0u64; sets::TABLE];
+    climb(rows, k, f, &mut near)
 }
 
 // The largest k-plex that holds the forced vertices, for the slack k, and of those of its size the one with the lowest mask. Nothing may be forced.
@@ -101,5 +110,5 @@ pub fn largest(rows: &[u64], slack: usize, forced: Set) -> LargestFound
     if !judging::plex::is_plex(rows, slack, forced) {
         return LargestFound::Refused(Refusal::Forced);
     }
-    LargestFound::Found(climb(rows, slack, forced))
+    LargestFound::Found(climb_apart(rows, slack, forced))
 }

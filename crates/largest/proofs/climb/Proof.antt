@@ -1,124 +1,143 @@
+-- The best so far holds f at every turn, and the table serves its size; where no larger one is held, none is larger, and the lowest of the size is sought.
+use Prim.Native.Nat.{ℕ, _+_, _-_, _≤_}
+use native.Mathlib.Omega.{arith}
+use mathlib.Core.Path.{_≡_, refl, sym, ap, _∙_}
+use lib.ListN.{length}
+use denote.Ref.{now}
+use borrow.Author.Needs.{needs}
+use Rattle.sets.specs.Set as Set
+use Rattle.sets.specs.Set.{size, full}
+use Rattle.sets.specs.Words.{width, mask, masks}
+use Rattle.sets.specs.RangeLaws.{true-is-not-false}
+use Rattle.sets.specs.WalkLaws.{empty-holds, empty-fails}
+use Rattle.judging.specs.Request.{request}
+use Rattle.search.specs.Ready.{Settled}
+use Rattle.search.specs.Start.{Candidates}
+use Rattle.search.specs.StartLaws.{table-fits, all-candidates, start-pairing, filled-settled}
+use Rattle.largest.specs.Largest.{Holding}
+use Rattle.largest.specs.ClimbLaws.{settled-higher, held-top, all-top}
 use Rattle.largest.proofs.climb.Statement.{statement}
 use Rattle.largest.proofs.climb.Tie as tie
-use Rattle.largest.proofs.climb.Reads as reads
-use Rattle.largest.proofs.climb.Lts as lts
-use Rattle.largest.proofs.first.Reads as first-reads
-use Rattle.largest.proofs.holding.Reads as holding-reads
-use Rattle.largest.proofs.lowest.lowest.Reads as lowest-reads
-use Rattle.largest.proofs.refill.Reads as refill-reads
-use Rattle.sets.proofs.count.Reads as count-reads
-use Rattle.sets.proofs.is_empty.Reads as is-empty-reads
-use Rattle.sets.proofs.size.Reads as size-reads
 
 abbrev Inv-loop : tie.InvT-loop
-Inv-loop rows k f n near₀ best₀ floor₀ near best floor = ?
+Inv-loop rows k f near₀ n best₀ floor₀ near best floor =
+    Holding (masks rows) k (mask f) (mask best) × Settled (masks rows) (masks near) (request k floor) × (floor ≤ size (mask best)) × (length near ≡ length near₀)
 
 abbrev μ-loop : tie.MeasureT-loop
-μ-loop rows k f n near₀ best₀ floor₀ near best floor = ?
+μ-loop rows k f near₀ n best₀ floor₀ near best floor = n - size (mask best)
 
--- src/lib.rt:76:9
-count-requires : tie.Need-count-requires Inv-loop μ-loop
-count-requires c κs = ?
+-- the entry, as it is seen from the set of all vertices, and from the loop
+abbrev start : tie.After-full Inv-loop μ-loop → tie.Start Inv-loop μ-loop
+start c = c .before .before .before .before
 
--- src/lib.rt:78:38
-slice-aggregate-first : tie.Need-slice-aggregate-first Inv-loop μ-loop
-slice-aggregate-first c = ?
+abbrev filled : tie.At-loop Inv-loop μ-loop → tie.After-full Inv-loop μ-loop
+filled c = c .before .before .before .before .before .before .before
 
--- src/lib.rt:78:9
+abbrev entry : tie.At-loop Inv-loop μ-loop → tie.Start Inv-loop μ-loop
+entry c = start (filled c)
+
+all-vertices : (c : tie.After-full Inv-loop μ-loop) → let at = start c .args in Candidates (masks (now (at .rows))) (request (at .k) 0) (mask (c .full .result))
+all-vertices c = all-candidates (c .full .ensures ∙ ap full (c .before .count .ensures))
+
+full-requires : tie.Need-full-requires Inv-loop μ-loop
+full-requires c κs =
+    let sized = c .before .before .before .pre .0 .sized in
+    (omega (arith, c .count .ensures, sized .some), omega (arith, c .count .ensures, sized .most))
+
+fill-requires : tie.Need-fill-requires Inv-loop μ-loop
+fill-requires c κs =
+    let at = c .before in
+    let pre = start at .pre in
+    (pre .2, start-pairing (pre .0) (all-vertices at), (λ e. absurd (true-is-not-false (sym e))))
+
 first-requires : tie.Need-first-requires Inv-loop μ-loop
-first-requires c κs = ?
+first-requires c κs =
+    let at = c .before .before .before .before .before in
+    let pre = start at .pre in
+    (filled-settled (pre .0) (pre .2 .room) (c .before .before .before .fill .ensures), all-vertices at, pre .1)
 
--- src/lib.rt:80:5
 loop-holds : tie.Need-loop-holds Inv-loop μ-loop
-loop-holds c = ?
+loop-holds c =
+    let pre = start (c .before .before .before .before .before .before) .pre in
+    (c .first .ensures, filled-settled (pre .0) (pre .2 .room) (c .before .before .before .before .fill .ensures), omega arith, refl)
 
--- src/lib.rt:80:11
-size-requires : tie.Need-size-requires Inv-loop μ-loop
-size-requires c κs = ?
+-- ---- one turn
 
--- src/lib.rt:81:13
-size-requires-2 : tie.Need-size-requires-2 Inv-loop μ-loop
-size-requires-2 c κs = ?
+abbrev turn : tie.After-size2 Inv-loop μ-loop → tie.At-loop Inv-loop μ-loop
+turn c = c .before .before .before
 
--- src/lib.rt:82:46
-slice-aggregate-refill : tie.Need-slice-aggregate-refill Inv-loop μ-loop
-slice-aggregate-refill c = ?
+-- the size is below n
+small : (c : tie.After-size2 Inv-loop μ-loop) → c .size2 .result + 1 ≤ width
+small c =
+    let loop = turn c in
+    omega (arith, c .before .if1 .taken, c .before .before .size .ensures .0, c .size2 .ensures .0, filled loop .before .count .ensures,
+    entry loop .pre .0 .sized .most)
 
--- src/lib.rt:82:9
 refill-requires : tie.Need-refill-requires Inv-loop μ-loop
-refill-requires c κs = ?
+refill-requires c κs =
+    let size = c .before in
+    let inv = turn size .loop .inv in
+    (inv .1, omega (arith, inv .2, size .size2 .ensures .0), size .size2 .ensures .1)
 
--- src/lib.rt:83:36
-slice-aggregate-holding : tie.Need-slice-aggregate-holding Inv-loop μ-loop
-slice-aggregate-holding c = ?
-
--- src/lib.rt:83:46
-add-holding : tie.Need-add-holding Inv-loop μ-loop
-add-holding c = ?
-
--- src/lib.rt:83:13
 holding-requires : tie.Need-holding-requires Inv-loop μ-loop
-holding-requires c κs = ?
+holding-requires c κs =
+    let refill = c .before .before .before in
+    let size = refill .before .before in
+    (settled-higher (omega (arith, refill .refill .ensures .1)) (small size) (refill .refill .ensures .0), entry (turn size) .pre .1, omega arith)
 
--- src/lib.rt:84:12
-is-empty-requires : tie.Need-is-empty-requires Inv-loop μ-loop
-is-empty-requires c κs = ?
-
--- src/lib.rt:85:41
-slice-aggregate-lowest : tie.Need-slice-aggregate-lowest Inv-loop μ-loop
-slice-aggregate-lowest c = ?
-
--- src/lib.rt:85:13
 lowest-requires : tie.Need-lowest-requires Inv-loop μ-loop
-lowest-requires c κs = ?
+lowest-requires c κs =
+    let none = c .before in
+    let held = none .before .before in
+    let refill = held .before .before .before .before in
+    let size = refill .before .before in
+    let loop = turn size in
+    let same = size .size2 .ensures .0 in
+    (settled-higher (omega (arith, refill .refill .ensures .1, same)) (omega (arith, small size, same)) (refill .refill .ensures .0), entry loop .pre .1,
+    held-top (loop .loop .inv .0) (omega (arith, same)) (held .holding .ensures) (empty-holds (none .before .is-empty .ensures) (none .if2 .taken)))
 
--- src/lib.rt:85:13
-returns : tie.Need-returns Inv-loop μ-loop
-returns c = ?
+same-length : tie.Need-same-length Inv-loop μ-loop
+same-length c =
+    let refill = c .before .before .before .before .before .before .before .before in
+    let loop = turn (refill .before .before) in
+    refill .refill .kept .1 .1 .1 .1 .0 ∙ loop .loop .inv .3 ∙ loop .before .before .before .before .before .fill .kept .1 .1 .1 .1 .1 .1 .0
 
--- src/lib.rt:80:5
+-- a larger one was found
+more : (c : tie.Else2 Inv-loop μ-loop) → let held = c .before .before in let size = held .before .before .before .before .before .before in
+    let at = entry (turn size) .args in
+    Holding (masks (now (at .rows))) (at .k) (mask (at .f)) (mask (held .holding .result)) × (size .size2 .result + 1 ≤ Set.size (mask (held .holding .result)))
+more c = c .before .before .holding .ensures .some (empty-fails (c .before .is-empty .ensures) (c .if2 .left))
+
 loop-less : tie.Need-loop-less Inv-loop μ-loop
-loop-less c = ?
+loop-less c =
+    let size = c .before .before .before .before .before .before .before .before in
+    omega (arith, more c .1, size .before .if1 .taken, size .before .before .size .ensures .0, size .size2 .ensures .0)
 
--- src/lib.rt:80:5
 loop-again : tie.Need-loop-again Inv-loop μ-loop
-loop-again c = ?
+loop-again c =
+    let refill = c .before .before .before .before .before .before in
+    let larger = more c in
+    (larger .0, refill .refill .ensures .0, omega (arith, larger .1, refill .refill .ensures .1),
+    refill .refill .kept .1 .1 .1 .1 .0 ∙ turn (refill .before .before) .loop .inv .3)
 
--- src/lib.rt:89:26
-slice-aggregate-lowest-2 : tie.Need-slice-aggregate-lowest-2 Inv-loop μ-loop
-slice-aggregate-lowest-2 c = ?
+-- ---- all vertices are in the best one
 
--- src/lib.rt:89:5
 lowest-requires-2 : tie.Need-lowest-requires-2 Inv-loop μ-loop
-lowest-requires-2 c κs = ?
+lowest-requires-2 c κs =
+    let loop = c .before .before .before in
+    let inv = loop .loop .inv in
+    let size = c .before .before .size .ensures in
+    (settled-higher (inv .2) (omega (arith, size)) (inv .1), entry loop .pre .1,
+    all-top (inv .0) (omega (arith, c .before .if1 .left, size .0, filled loop .before .count .ensures)))
 
--- src/lib.rt:72:1
-returns-2 : tie.Need-returns-2 Inv-loop μ-loop
-returns-2 c = ?
+same-length-2 : tie.Need-same-length-2 Inv-loop μ-loop
+same-length-2 c =
+    let loop = c .before .before .before .before in
+    loop .loop .inv .3 ∙ loop .before .before .before .before .before .fill .kept .1 .1 .1 .1 .1 .1 .0
 
 pub climb-spec : {M : Type 1} → statement M
 climb-spec =
     tie.close
-    (tie.spec
-    Inv-loop
-    μ-loop
-    count-requires
-    slice-aggregate-first
-    first-requires
-    loop-holds
-    size-requires
-    size-requires-2
-    slice-aggregate-refill
-    refill-requires
-    slice-aggregate-holding
-    add-holding
-    holding-requires
-    is-empty-requires
-    slice-aggregate-lowest
-    lowest-requires
-    returns
-    loop-less
-    loop-again
-    slice-aggregate-lowest-2
-    lowest-requires-2
-    returns-2)
+    (tie.spec Inv-loop μ-loop (λ c κs. tt) full-requires fill-requires first-requires loop-holds (λ c κs. tt) (λ c κs. tt) refill-requires
+    (λ c. search needs) holding-requires (λ c κs. tt) lowest-requires same-length (λ c. search needs) loop-less loop-again lowest-requires-2
+    same-length-2 (λ c. search needs))

@@ -1,62 +1,38 @@
+-- The table stays as it is, or is filled for a floor at which the reach says something.
+use native.Mathlib.Omega.{arith}
+use denote.Ref.{now}
 use borrow.Author.Needs.{needs}
+use Rattle.sets.specs.Words.{masks}
+use Rattle.judging.specs.Request.{request}
+use Rattle.search.specs.Start.{Searchable}
+use Rattle.search.specs.StartLaws.{settled-searchable, start-pairing, filled-settled}
+use Rattle.largest.specs.ClimbLaws.{settled-higher}
 use Rattle.largest.proofs.refill.Statement.{statement}
 use Rattle.largest.proofs.refill.Tie as tie
-use Rattle.largest.proofs.refill.Reads as reads
-use Rattle.largest.proofs.refill.Lts as lts
-use Rattle.search.proofs.candidates.Reads as candidates-reads
-use Rattle.search.proofs.near.fill.Reads as fill-reads
 
--- src/lib.rt:48:9
-returns : tie.Need-returns
-returns c = search needs
+-- the request with the floor `size`
+searchable : (c : tie.Start) → Searchable (masks (now (c .args .rows))) (request (c .args .k) (c .args .size))
+searchable c = settled-searchable (settled-higher (c .pre .1) (c .pre .2) (c .pre .0))
 
--- src/lib.rt:51:9
-returns-2 : tie.Need-returns-2
-returns-2 c = search needs
-
--- src/lib.rt:53:8
-add-if3 : tie.Need-add-if3
-add-if3 c = search needs
-
--- src/lib.rt:53:19
-mul-if3 : tie.Need-mul-if3
-mul-if3 c = search needs
-
--- src/lib.rt:54:9
-returns-3 : tie.Need-returns-3
-returns-3 c = search needs
-
--- src/lib.rt:56:9
 candidates-requires : tie.Need-candidates-requires
-candidates-requires c κs = search needs
+candidates-requires c κs = searchable (c .before .before .before .before .before)
 
--- src/lib.rt:57:50
-mul-fill : tie.Need-mul-fill
-mul-fill c = search needs
-
--- src/lib.rt:57:5
 fill-requires : tie.Need-fill-requires
-fill-requires c κs = ?
+fill-requires c κs =
+    let start = c .before .before .before .before .before .before .before in
+    let ask = searchable start in (
+      record { sized = ask .sized; room = start .pre .0 .long },
+      start-pairing ask (c .before .candidates .ensures),
+      (λ e. omega (arith, c .before .before .if3 .left)),
+    )
 
--- src/lib.rt:43:1
-same-length : tie.Need-same-length
-same-length c = search needs
-
--- src/lib.rt:43:1
 returns-4 : tie.Need-returns-4
-returns-4 c = ?
+returns-4 c =
+    let start = c .before .before .before .before .before .before .before .before .before .before in
+    (filled-settled (searchable start) (start .pre .0 .long) (c .before .before .fill .ensures), omega arith)
 
 pub refill-spec : {M : Type 1} → statement M
 refill-spec =
     tie.close
-    (tie.spec
-    returns
-    returns-2
-    add-if3
-    mul-if3
-    returns-3
-    candidates-requires
-    mul-fill
-    fill-requires
-    same-length
-    returns-4)
+    (tie.spec (λ c. search needs) (λ c. search needs) (λ c. search needs) (λ c. search needs) (λ c. search needs) candidates-requires (λ c. search needs)
+    fill-requires (λ c. search needs) returns-4)

@@ -1,106 +1,119 @@
+-- Every lower plex of the size is among the candidates that are left; once there are none, w is the lowest. The candidates fall, as a number.
+use native.Mathlib.Omega.{arith}
+use mathlib.Core.Path.{refl}
+use denote.Ref.{now}
+use Rattle.sets.specs.Words.{mask, masks}
+use Rattle.sets.specs.SubsetLaws.{sub-number}
+use Rattle.sets.specs.WalkLaws.{walk-goes-on, walk-over, without-less, empty-holds, empty-fails}
+use Rattle.judging.specs.Request.{request}
+use Rattle.search.specs.Ready.{Settled}
+use Rattle.search.specs.StartLaws.{settled-searchable}
+use Rattle.search.specs.Trim.{Beside}
+use Rattle.search.specs.ReadyLaws.{ready-vertex, ready-joinable}
+use Rattle.largest.specs.Climb.{Sparing, Lowering}
+use Rattle.largest.specs.ClimbLaws.{settled-higher, top-some, lowering-none, lowering-lower, lowering-with, lowering-all}
 use Rattle.largest.proofs.lowest.lowest.Statement.{statement}
 use Rattle.largest.proofs.lowest.lowest.Tie as tie
-use Rattle.largest.proofs.lowest.lowest.Reads as reads
-use Rattle.largest.proofs.lowest.lowest.Lts as lts
-use Rattle.largest.proofs.lowest.highest.Reads as highest-reads
-use Rattle.largest.proofs.lowest.spare.Reads as spare-reads
-use Rattle.largest.proofs.start.fit.Reads as fit-reads
-use Rattle.search.proofs.candidates.Reads as candidates-reads
-use Rattle.search.proofs.trim.beside.Reads as beside-reads
-use Rattle.sets.proofs.is_empty.Reads as is-empty-reads
-use Rattle.sets.proofs.size.Reads as size-reads
-use Rattle.sets.proofs.with.Reads as with-reads
-use Rattle.sets.proofs.without.Reads as without-reads
 
 abbrev Inv-loop : tie.InvT-loop
-Inv-loop rows near k q s₀ left₀ best₀ s left best = ?
+Inv-loop rows near k q s₀ left₀ best₀ s left best = Lowering (masks rows) (masks near) (request k q) (mask s₀) (mask s) (mask left) (mask best)
 
 abbrev μ-loop : tie.MeasureT-loop
-μ-loop rows near k q s₀ left₀ best₀ s left best = ?
+μ-loop rows near k q s₀ left₀ best₀ s left best = mask left
 
--- src/lowest.rt:54:9
-size-requires : tie.Need-size-requires Inv-loop μ-loop
-size-requires c κs = ?
+-- the entry, the loop's record at this turn, and the turn's highest candidate
+abbrev start : tie.After-size Inv-loop μ-loop → tie.Start Inv-loop μ-loop
+start c = c .before .before .before
 
--- src/lowest.rt:55:9
+abbrev sized : tie.At-loop Inv-loop μ-loop → tie.After-size Inv-loop μ-loop
+sized c = c .before .before .before
+
+abbrev turn : tie.After-highest Inv-loop μ-loop → tie.At-loop Inv-loop μ-loop
+turn c = c .before .before .before
+
+settled : (c : tie.After-size Inv-loop μ-loop) → let at = start c .args in
+    Settled (masks (now (at .rows))) (masks (now (at .near))) (request (at .k) (c .size .result))
+settled c = settled-higher (omega (arith, c .size .ensures .0)) (c .size .ensures .1) (start c .pre .0)
+
+sparing : (c : tie.After-without Inv-loop μ-loop) → let at = turn (c .before) in let args = start (sized at) .args in
+    Sparing (masks (now (args .rows))) (masks (now (args .near))) (request (args .k) (sized at .size .result)) (mask (at .loop .s)) (mask (at .loop .left))
+    (c .before .highest .result) (mask (c .without .result)) (mask (at .loop .best))
+sparing c =
+    let at = turn (c .before) in
+    let inv = at .loop .inv in
+    let size = sized at in
+    record {
+      ready = inv .ready;
+      floor = omega (arith, top-some (inv .ready .settled .sized .some) (inv .ready .settled .slack .0) (start size .pre .2), size .size .ensures .0);
+      highest = c .before .highest .ensures;
+      others = c .without .ensures;
+      within = inv .within;
+    }
+
+-- what is left beside the highest candidate
+left : (c : tie.After-beside Inv-loop μ-loop) → let spare = c .before .before .before in let at = turn (spare .before .before) in let args = start (sized at) .args in
+    Beside (masks (now (args .rows))) (request (args .k) (sized at .size .result)) (mask (at .loop .s)) (mask (at .loop .left))
+    (spare .before .before .highest .result) (mask (c .beside .result))
+left c = c .beside .ensures _ refl (turn (c .before .before .before .before .before) .loop .inv .ready .settled .near)
+
 candidates-requires : tie.Need-candidates-requires Inv-loop μ-loop
-candidates-requires c κs = ?
+candidates-requires c κs = settled-searchable (settled c)
 
--- src/lowest.rt:57:9
 fit-requires : tie.Need-fit-requires Inv-loop μ-loop
-fit-requires c κs = ?
+fit-requires c κs = (settled (c .before), c .candidates .ensures, start (c .before) .pre .1)
 
--- src/lowest.rt:59:5
 loop-holds : tie.Need-loop-holds Inv-loop μ-loop
-loop-holds c = ?
+loop-holds c =
+    let size = c .before .before in
+    lowering-none (settled size) (c .fit .ensures) (start size .pre .2) (size .size .ensures .0)
 
--- src/lowest.rt:59:12
-is-empty-requires : tie.Need-is-empty-requires Inv-loop μ-loop
-is-empty-requires c κs = ?
-
--- src/lowest.rt:60:13
 highest-requires : tie.Need-highest-requires Inv-loop μ-loop
-highest-requires c κs = ?
+highest-requires c κs = walk-goes-on (c .before .is-empty .ensures) (c .if1 .taken)
 
--- src/lowest.rt:61:13
 without-requires : tie.Need-without-requires Inv-loop μ-loop
-without-requires c κs = ?
+without-requires c κs =
+    let ready = turn c .loop .inv .ready in
+    omega (arith, ready-vertex ready _ (c .highest .ensures .member), ready .settled .sized .most)
 
--- src/lowest.rt:62:13
-spare-requires : tie.Need-spare-requires Inv-loop μ-loop
-spare-requires c κs = ?
-
--- src/lowest.rt:63:12
-is-empty-requires-2 : tie.Need-is-empty-requires-2 Inv-loop μ-loop
-is-empty-requires-2 c κs = ?
-
--- src/lowest.rt:64:13
 beside-requires : tie.Need-beside-requires Inv-loop μ-loop
-beside-requires c κs = ?
+beside-requires c κs = let high = c .before .before .before .before in ready-joinable (turn high .loop .inv .ready) _ (high .highest .ensures .member)
 
--- src/lowest.rt:65:13
 with-requires : tie.Need-with-requires Inv-loop μ-loop
-with-requires c κs = ?
+with-requires c κs =
+    let high = c .before .before .before .before .before in
+    let ready = turn high .loop .inv .ready in
+    omega (arith, ready-vertex ready _ (high .highest .ensures .member), ready .settled .sized .most)
 
--- src/lowest.rt:59:5
 loop-less : tie.Need-loop-less Inv-loop μ-loop
-loop-less c = ?
+loop-less c =
+    let beside = c .before in
+    let high = beside .before .before .before .before .before in
+    omega (arith, sub-number _ _ (left beside .kept .part), without-less _ _ (high .highest .ensures .member))
 
--- src/lowest.rt:59:5
 loop-again : tie.Need-loop-again Inv-loop μ-loop
-loop-again c = ?
+loop-again c =
+    let beside = c .before in
+    let none = beside .before in
+    let spare = none .before .before in
+    lowering-with (turn (spare .before .before) .loop .inv) (sparing (spare .before)) (spare .spare .ensures)
+    (empty-holds (none .before .is-empty2 .ensures) (none .if2 .taken)) (left beside) (c .with .ensures)
 
--- src/lowest.rt:59:5
 loop-less-2 : tie.Need-loop-less-2 Inv-loop μ-loop
-loop-less-2 c = ?
+loop-less-2 c =
+    let rest = c .before .before .before in
+    rw (rest .without .ensures) (without-less _ _ (rest .before .highest .ensures .member))
 
--- src/lowest.rt:59:5
 loop-again-2 : tie.Need-loop-again-2 Inv-loop μ-loop
-loop-again-2 c = ?
+loop-again-2 c =
+    let spare = c .before .before in
+    lowering-lower (turn (spare .before .before) .loop .inv) (sparing (spare .before)) (spare .spare .ensures)
+    (empty-fails (c .before .is-empty2 .ensures) (c .if2 .left))
 
--- src/lowest.rt:49:1
 returns : tie.Need-returns Inv-loop μ-loop
-returns c = ?
+returns c = lowering-all (c .before .before .loop .inv) (walk-over (c .before .is-empty .ensures) (c .if1 .left))
 
 pub lowest-spec : {M : Type 1} → statement M
 lowest-spec =
     tie.close
-    (tie.spec
-    Inv-loop
-    μ-loop
-    size-requires
-    candidates-requires
-    fit-requires
-    loop-holds
-    is-empty-requires
-    highest-requires
-    without-requires
-    spare-requires
-    is-empty-requires-2
-    beside-requires
-    with-requires
-    loop-less
-    loop-again
-    loop-less-2
-    loop-again-2
-    returns)
+    (tie.spec Inv-loop μ-loop (λ c κs. tt) candidates-requires fit-requires loop-holds (λ c κs. tt) highest-requires without-requires
+    (λ c κs. sparing c) (λ c κs. tt) beside-requires with-requires loop-less loop-again loop-less-2 loop-again-2 returns)
