@@ -1,23 +1,42 @@
 -- Laws of the call for the largest k-plex: from the outcome of the checks and from what the search found to what the call answers. The forced set is looked
 -- at last, as a k-plex.
 use Prim.Native.Nat.{ℕ}
+use native.Mathlib.Omega.{arith}
 use mathlib.Core.Path.{_≡_, sym, ap, ap₂, _∙_}
-use mathlib.Core.Bool.{false, not}
+use mathlib.Core.Bool.{true, false, not}
 use mathlib.Core.List.{List, [], _∷_}
 use Rattle.sets.specs.Set.{size}
-use Rattle.sets.specs.RangeLaws.{is-true}
+use Rattle.sets.specs.RangeLaws.{is-true, true-holds}
 use Rattle.judging.specs.Plex.{plex}
-use Rattle.judging.specs.PlexLaws.{plex-test, hereditary}
-use Rattle.judging.specs.Refusal.{refused, answered, firstOf}
-use Rattle.judging.specs.Calls.{refusal, passed, checkedReply, setCheck}
-use Rattle.judging.specs.RefusalLaws.{first-append, first-holds, first-skips, first-passed}
+use Rattle.judging.specs.PlexLaws.{plex-holds, plex-test, hereditary}
+use Rattle.judging.specs.Request.{request}
+use Rattle.judging.specs.Refusal.{refused, answered, firstOf, setCause}
+use Rattle.judging.specs.Calls.{refusal, passed, checkedReply, slackCheck, setCheck}
+use Rattle.judging.specs.RefusalLaws.{first-append, first-holds, first-skips, first-passed, passed-front, slack-accepted, set-checked}
 use Rattle.judging.specs.CallLaws.{front-refused}
 use Rattle.judging.specs.declared.Refusal.{Refusal}
 use Rattle.judging.specs.declared.Checked.{Checked}
 use Rattle.judging.specs.declared.Checked.the-variants.{Failed}
+use Rattle.search.specs.Start.{Searchable}
+use Rattle.largest.specs.Fit.{Forced}
 use Rattle.largest.specs.Largest.{largestSize, largestMask, Largest}
 use Rattle.largest.specs.Calls.{forcedCause, forcedCheck, largestReply}
 use Rattle.largest.specs.LargestLaws.{largest-size, largest-mask}
+
+-- what the search starts from
+pub set-searchable : (g : List ℕ) (k f : ℕ) → firstOf (setCheck g k f) passed ≡ passed → Searchable g (request k 0)
+unfolding setCheck
+set-searchable g k f e =
+    let judged = set-checked g k f e in
+    record {
+      sized = record { some = judged .inside .some; most = judged .inside .most };
+      valid = judged .valid;
+      slack = slack-accepted g k (passed-front (slackCheck g k) (setCause g f ∷ []) e);
+      floor = omega arith;
+    }
+
+pub set-forced : (g : List ℕ) (k f : ℕ) → firstOf (setCheck g k f) passed ≡ passed → plex g k f ≡ true → Forced g k f
+set-forced g k f e p = record { below = set-checked g k f e .inside .below; plexed = plex-holds g k f (true-holds (plex g k f) p) }
 
 module _ (g : List ℕ) (k f : ℕ) where
   pub reply-refused : {r : Checked} {x : Refusal} → checkedReply r ≡ firstOf (setCheck g k f) passed → r ≡ Failed x → largestReply g k f ≡ refusal x

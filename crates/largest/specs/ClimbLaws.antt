@@ -154,11 +154,16 @@ top-some {g} {k} {f} {w} some slack h = go (decLt 0 (size w))
         let none : (u : ℕ) → bit w u ≡ 0 = λ u. by-bit w u (λ i. absurd (n (positive-size w (positive w u i)))) (λ o. o) in
         let one = size-with 0 0 (bit-none 0) in
         let zero = ones-le 0 0 (pow-pos 0) in
-        absurd (omega (arith, one, n, h .top (with 0 0) (record {
-          below = with-below (length g) 0 0 (pow-pos (length g)) some;
-          lower = λ u. omega (arith, h .holds .lower u, none u);
-          plexed = small-plex g k (with 0 0) (omega (arith, one, zero, slack));
-        })))
+        absurd (omega (
+          arith,
+          one,
+          n,
+          h .top (with 0 0) (record {
+            below = with-below (length g) 0 0 (pow-pos (length g)) some;
+            lower = λ u. omega (arith, h .holds .lower u, none u);
+            plexed = small-plex g k (with 0 0) (omega (arith, one, zero, slack));
+          }),
+        ))
 
 pub lowering-none : {g t : List ℕ} {k q f c w : ℕ} → Settled g t (request k q) → Fitted g (request k q) f c → Top g k f w → q ≡ size w
     → Lowering g t (request k q) f f c w
@@ -200,8 +205,11 @@ module _ {g t : List ℕ} {ask : Request} {f s c w : ℕ} (l : Lowering g t ask 
           within = one;
           found = λ x listed q below.
               let f : Found g ask s c x = l .found x listed q (omega (arith, below, y .lower less)) in
-              rw (p .others) (without-found h f (by-bit x h (λ i. absurd (omega (arith, below,
-              sparing-order p r x (one .lower) (inside .upper) (f .lower) (f .upper) (spared-out p one) i))) (λ o. o)));
+              rw (p .others) (without-found h f (by-bit x h (λ i. absurd (omega (
+                arith,
+                below,
+                sparing-order p r x (one .lower) (inside .upper) (f .lower) (f .upper) (spared-out p one) i,
+              ))) (λ o. o)));
         }
 
     pub lowering-with : {d j : ℕ} → r ≡ 0 → Beside g ask s c h d → j ≡ with s h → Lowering g t ask f j d w

@@ -70,8 +70,14 @@ turn c = c .before .before .before
 small : (c : tie.After-size2 Inv-loop μ-loop) → c .size2 .result + 1 ≤ width
 small c =
     let loop = turn c in
-    omega (arith, c .before .if1 .taken, c .before .before .size .ensures .0, c .size2 .ensures .0, filled loop .before .count .ensures,
-    entry loop .pre .0 .sized .most)
+    omega (
+      arith,
+      c .before .if1 .taken,
+      c .before .before .size .ensures .0,
+      c .size2 .ensures .0,
+      filled loop .before .count .ensures,
+      entry loop .pre .0 .sized .most,
+    )
 
 refill-requires : tie.Need-refill-requires Inv-loop μ-loop
 refill-requires c κs =
@@ -92,9 +98,11 @@ lowest-requires c κs =
     let refill = held .before .before .before .before in
     let size = refill .before .before in
     let loop = turn size in
-    let same = size .size2 .ensures .0 in
-    (settled-higher (omega (arith, refill .refill .ensures .1, same)) (omega (arith, small size, same)) (refill .refill .ensures .0), entry loop .pre .1,
-    held-top (loop .loop .inv .0) (omega (arith, same)) (held .holding .ensures) (empty-holds (none .before .is-empty .ensures) (none .if2 .taken)))
+    let same = size .size2 .ensures .0 in (
+      settled-higher (omega (arith, refill .refill .ensures .1, same)) (omega (arith, small size, same)) (refill .refill .ensures .0),
+      entry loop .pre .1,
+      held-top (loop .loop .inv .0) (omega (arith, same)) (held .holding .ensures) (empty-holds (none .before .is-empty .ensures) (none .if2 .taken)),
+    )
 
 same-length : tie.Need-same-length Inv-loop μ-loop
 same-length c =
@@ -116,9 +124,12 @@ loop-less c =
 loop-again : tie.Need-loop-again Inv-loop μ-loop
 loop-again c =
     let refill = c .before .before .before .before .before .before in
-    let larger = more c in
-    (larger .0, refill .refill .ensures .0, omega (arith, larger .1, refill .refill .ensures .1),
-    refill .refill .kept .1 .1 .1 .1 .0 ∙ turn (refill .before .before) .loop .inv .3)
+    let larger = more c in (
+      larger .0,
+      refill .refill .ensures .0,
+      omega (arith, larger .1, refill .refill .ensures .1),
+      refill .refill .kept .1 .1 .1 .1 .0 ∙ turn (refill .before .before) .loop .inv .3,
+    )
 
 -- ---- all vertices are in the best one
 
@@ -126,9 +137,11 @@ lowest-requires-2 : tie.Need-lowest-requires-2 Inv-loop μ-loop
 lowest-requires-2 c κs =
     let loop = c .before .before .before in
     let inv = loop .loop .inv in
-    let size = c .before .before .size .ensures in
-    (settled-higher (inv .2) (omega (arith, size)) (inv .1), entry loop .pre .1,
-    all-top (inv .0) (omega (arith, c .before .if1 .left, size .0, filled loop .before .count .ensures)))
+    let size = c .before .before .size .ensures in (
+      settled-higher (inv .2) (omega (arith, size)) (inv .1),
+      entry loop .pre .1,
+      all-top (inv .0) (omega (arith, c .before .if1 .left, size .0, filled loop .before .count .ensures)),
+    )
 
 same-length-2 : tie.Need-same-length-2 Inv-loop μ-loop
 same-length-2 c =

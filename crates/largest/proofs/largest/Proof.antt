@@ -1,52 +1,39 @@
+-- The checks decide first, then the forced set, and what the climb finds is what the definition says.
+use mathlib.Core.Path.{sym, _∙_}
 use borrow.Author.Needs.{needs}
+use borrow.Author.Tests.{not-true, not-false}
+use Rattle.judging.specs.RefusalLaws.{set-checked}
+use Rattle.judging.specs.CallLaws.{none-holds}
+use Rattle.largest.specs.CallLaws.{set-searchable, set-forced, reply-refused, reply-forced, reply-found}
 use Rattle.largest.proofs.largest.Statement.{statement}
 use Rattle.largest.proofs.largest.Tie as tie
-use Rattle.largest.proofs.largest.Reads as reads
-use Rattle.largest.proofs.largest.Lts as lts
-use Rattle.judging.proofs.check.check_set.Reads as check-set-reads
-use Rattle.judging.proofs.plex.is_plex.Reads as is-plex-reads
-use Rattle.largest.proofs.climb_apart.Reads as climb-apart-reads
 
--- src/lib.rt:106:9
-check-set-requires : tie.Need-check-set-requires
-check-set-requires c κs = search needs
-
--- src/lib.rt:107:28
-enum-known-checked : tie.Need-enum-known-checked
-enum-known-checked c = search needs
-
--- src/lib.rt:108:9
 returns : tie.Need-returns
-returns c = ?
+returns c = sym (reply-refused _ _ _ (c .before .before .before .check-set .ensures) (c .before .checked .given .1))
 
-enum-told : tie.Need-enum-told
-enum-told c = search needs
-
--- src/lib.rt:110:9
 is-plex-requires : tie.Need-is-plex-requires
-is-plex-requires c κs = ?
+is-plex-requires c κs = set-checked _ _ _ (none-holds _ _ (c .before .before .check-set .ensures) (c .enum-told .given .1)) .inside
 
--- src/lib.rt:111:9
 returns-2 : tie.Need-returns-2
-returns-2 c = ?
+returns-2 c =
+    let plex = c .before in
+    let passed = plex .before in
+    sym (reply-forced _ _ _ (none-holds _ _ (passed .before .before .check-set .ensures) (passed .enum-told .given .1))
+    (sym (plex .is-plex .ensures) ∙ not-true _ (c .if1 .taken)))
 
--- src/lib.rt:113:25
 climb-apart-requires : tie.Need-climb-apart-requires
-climb-apart-requires c κs = ?
+climb-apart-requires c κs =
+    let plex = c .before in
+    let passed = plex .before in
+    let checked = none-holds _ _ (passed .before .before .check-set .ensures) (passed .enum-told .given .1) in
+    (set-searchable _ _ _ checked, set-forced _ _ _ checked (sym (plex .is-plex .ensures) ∙ not-false _ (c .if1 .left)))
 
--- src/lib.rt:103:1
 returns-3 : tie.Need-returns-3
-returns-3 c = ?
+returns-3 c =
+    let passed = c .before .before .before in
+    sym (reply-found (none-holds _ _ (passed .before .before .check-set .ensures) (passed .enum-told .given .1)) (c .climb-apart .ensures))
 
 pub largest-spec : {M : Type 1} → statement M
 largest-spec =
     tie.close
-    (tie.spec
-    check-set-requires
-    enum-known-checked
-    returns
-    enum-told
-    is-plex-requires
-    returns-2
-    climb-apart-requires
-    returns-3)
+    (tie.spec (λ c. search needs) (λ c. search needs) returns (λ c. search needs) is-plex-requires returns-2 climb-apart-requires returns-3)
