@@ -4,6 +4,7 @@ ghost use Rattle.judging.specs.Calls.{judgedReply};
 ghost use Rattle.bounds.specs.Calls.{coreFoundReply, reachFoundReply};
 ghost use Rattle.bounds.specs.BoundCalls.{boundFoundReply};
 ghost use Rattle.search.specs.Calls.{listFoundReply};
+ghost use Rattle.largest.specs.Calls.{largestFoundReply};
 ghost use Rattle.sheets.specs.Calls.{readReply, writtenReply};
 ghost use Rattle.judging.specs.Refusal.{answered};
 ghost use Rattle.judging.specs.Calls.{refusal};
@@ -15,6 +16,7 @@ use bounds::CoreFound;
 use bounds::ReachFound;
 use judging::Judged;
 use judging::Refusal;
+use largest::LargestFound;
 use search::ListFound;
 use sheets::SheetRead;
 use sheets::SheetWritten;
@@ -96,6 +98,19 @@ pub fn listed(answer: ListFound) -> Outcome
     match answer {
         ListFound::Listed(m) => valued(m),
         ListFound::Refused(f) => refused(f),
+    }
+}
+
+pub fn largest(answer: LargestFound) -> Outcome
+    ensures { λ r. ⌜ r ≡ outcome itself (largestFoundReply answer) ⌝ }
+{
+    match answer {
+        LargestFound::Found(s) => Outcome {
+            number: 0,
+            value: sets::size(s),
+            found: sets::word(s, 0),
+        },
+        LargestFound::Refused(f) => refused(f),
     }
 }
 

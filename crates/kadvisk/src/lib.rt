@@ -6,6 +6,7 @@ ghost use Rattle.judging.specs.Request.{request};
 ghost use Rattle.judging.specs.Calls.{plexReply, maximalReply};
 ghost use Rattle.bounds.specs.Calls.{coreReply, reachReply};
 ghost use Rattle.bounds.specs.BoundCalls.{firstBoundReply, secondBoundReply};
+ghost use Rattle.largest.specs.Calls.{largestReply};
 ghost use Rattle.kadvisk.specs.Outcome.{outcome, yesNo, itself, ListOutcome, ReadSheetOutcome, WriteSheetOutcome};
 
 mod answer;
@@ -14,7 +15,7 @@ use judging::Request;
 use search::Cuts;
 
 // The outcome of a call. `number` is 0 for a success and else document 01's number of the refusal. `found` is what a question found: 1 or 0 for yes or
-// no, a set's mask, a bound; it is 0 with a refusal, and where `value` says all.
+// no, a set's mask, a bound; it is 0 with a refusal, and where `value` says all. `value` and `found` together are the size and the mask of a largest k-plex.
 #[repr(C)]
 pub struct Outcome {
     pub number: usize,
@@ -111,6 +112,16 @@ pub extern "C" fn kadvisk_list(
 {
     let found = search::list(rows, Request { slack, floor }, slots);
     answer::listed(found)
+}
+
+// The largest k-plex that holds the set of the mask `forced`, which may be 0. Value: its size. Found: of the k-plexes of that size that hold the forced
+// vertices the lowest mask. Refusals: 1, 2, 4, 5, 7, and 11 where the forced set is no k-plex.
+#[no_mangle]
+pub extern "C" fn kadvisk_largest(rows: &[u64], slack: usize, forced: u64) -> Outcome
+    ensures { λ r. ⌜ r ≡ outcome itself (largestReply (masks (now (rows .entry))) slack forced) ⌝ }
+{
+    let found = largest::largest(rows, slack, sets::of_word(forced));
+    answer::largest(found)
 }
 
 // The cuts that the bits of a word switch on: bit 0 is the core, and so on in the order of include/kadvisk.h. Every setting gives the same list, so
