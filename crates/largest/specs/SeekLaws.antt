@@ -58,6 +58,16 @@ ready-seeking {g} {t} {k} {q} {have} {s} {c} one h l e =
       fine = subst (λ (x : ℕ). Compatible g x s c) one (h .fine);
     }
 
+-- ---- colour classes
+
+-- a listed plex in s and b has the members of s and at most n others
+pub coloured-empty : {g : List ℕ} {ask : Request} {have s c n b : ℕ} → have ≡ size s → Coloured g (ask .slack) c n b → have + n < ask .floor
+    → Empty g ask s b
+coloured-empty {s = s} {b = b} e k l x f =
+    let few = k .most x (f .listed .below) (f .listed .top .0) in
+    let whole = size-mono x (bitOr s (bitAnd x b)) (λ u. omega (arith, f .upper u, bit-or s b u, bit-or s (bitAnd x b) u, bit-and x b u)) in
+    omega (arith, l, few, whole, size-or s (bitAnd x b), e, f .listed .large)
+
 -- ---- a clique s with the candidates c
 
 module _ {g : List ℕ} {ask : Request} {have s c : ℕ} (h : Seeking g ask have s c) where
@@ -78,13 +88,6 @@ module _ {g : List ℕ} {ask : Request} {have s c : ℕ} (h : Seeking g ask have
         lower = sub-refl s;
         upper = λ u. omega (arith, bit-or s c u);
       })
-
-  -- a listed clique in s and b has the members of s and at most n others
-  pub coloured-empty : {n b : ℕ} → Coloured g c n b → have + n < ask .floor → Empty g ask s b
-  coloured-empty {n} {b} k l x f =
-      let few = k .most x (f .listed .below) (rw (h .slack) at (f .listed .top .0)) in
-      let whole = size-mono x (bitOr s (bitAnd x b)) (λ u. omega (arith, f .upper u, bit-or s b u, bit-or s (bitAnd x b) u, bit-and x b u)) in
-      omega (arith, l, few, whole, size-or s (bitAnd x b), h .counted, f .listed .large)
 
   -- a listed clique that holds v has no member outside row v, but v
   near : Near g ask g
@@ -147,12 +150,14 @@ pub record Sweeping (g : List ℕ) (ask : Request) (have s b t : ℕ) : Type 0 w
   pub none : Empty g ask s b
 
 -- of the candidates c those in n colour classes are too few, and the others are to be tried
-module _ {g : List ℕ} {c n b t : ℕ} (k : Coloured g c n b) (e : t ≡ minus c b) where
+module _ {g : List ℕ} {k c n b t : ℕ} (d : Coloured g k c n b) (e : t ≡ minus c b) where
   pub coloured-candidates : bitOr t b ≡ c
-  coloured-candidates = rw e (parts-whole c b (k .part))
+  coloured-candidates = rw e (parts-whole c b (d .part))
 
-  pub coloured-sweeping : {ask : Request} {have s : ℕ} → Seeking g ask have s c → have + n < ask .floor → Sweeping g ask have s b t
-  coloured-sweeping h l = record { seeking = rw coloured-candidates h; none = coloured-empty h k l }
+pub coloured-sweeping : {g : List ℕ} {ask : Request} {have s c n b t : ℕ} → Coloured g 1 c n b → t ≡ minus c b → Seeking g ask have s c
+    → have + n < ask .floor → Sweeping g ask have s b t
+coloured-sweeping {c = c} d e h l =
+    record { seeking = rw (coloured-candidates d e) h; none = coloured-empty {c = c} (h .counted) (rw (h .slack) d) l }
 
 pub record Step (g : List ℕ) (s b t v j d b2 t2 : ℕ) : Type 0 where
   pub member : In v t

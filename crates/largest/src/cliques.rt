@@ -2,46 +2,9 @@
 ghost use lib.Bits.{bitOr};
 ghost use Rattle.sets.specs.Words.{mask, masks};
 ghost use Rattle.judging.specs.Request.{request};
-ghost use Rattle.judging.specs.Setting.{Judgeable};
-ghost use Rattle.largest.specs.Colour.{Coloured};
 ghost use Rattle.largest.specs.Sought.{Sought, Seeking};
 ghost use Rattle.largest.specs.SeekLaws.{Sweeping};
 use sets::Set;
-
-// A colour class: members of `from`, taken one after the other, that are not adjacent to those before. A clique has at most one of them.
-fn class(rows: &[u64], from: Set) -> Set
-    requires { ⌜ Judgeable (masks (now rows)) (mask from) ⌝ }
-    ensures { λ r. ⌜ Coloured (masks (now (rows .entry))) (mask from) 1 (mask r) ⌝ }
-{
-    let mut chosen = sets::empty();
-    let mut left = from;
-    while !sets::is_empty(left) {
-        let v = sets::lowest(left);
-        chosen = sets::with(chosen, v);
-        left = sets::minus(sets::rest(left, v), sets::get(rows, v));
-    }
-    chosen
-}
-
-// The members of c in `count` colour classes, or in fewer where these have all of c. A clique has at most `count` of them.
-fn colour(rows: &[u64], c: Set, count: usize) -> Set
-    requires { ⌜ Judgeable (masks (now rows)) (mask c) ⌝ }
-    ensures { λ r. ⌜ Coloured (masks (now (rows .entry))) (mask c) count (mask r) ⌝ }
-{
-    let mut base = sets::empty();
-    let mut left = c;
-    let mut i = 0;
-    while i < count {
-        if sets::is_empty(left) {
-            return base;
-        }
-        let next = class(rows, left);
-        base = sets::join(base, next);
-        left = sets::minus(left, next);
-        i = i + 1;
-    }
-    base
-}
 
 // One clique of at least q members that holds s, which has `have` members, and has no vertex outside s and c: empty where nothing listed is there.
 // A clique in s and `base` has fewer than q members, so one of the others is in each that is sought.
@@ -56,7 +19,7 @@ pub(crate) fn clique(rows: &[u64], q: usize, have: usize, s: Set, c: Set) -> Set
     if sets::size(c) < need {
         return sets::empty();
     }
-    let base = colour(rows, c, need - 1);
+    let base = crate::colours::colour(rows, c, need - 1);
     sweep(rows, q, have, s, base, sets::minus(c, base))
 }
 

@@ -13,6 +13,7 @@ ghost use Rattle.largest.specs.Climb.{Held};
 ghost use Rattle.largest.specs.Calls.{largestReply, largestFoundReply};
 
 mod cliques;
+mod colours;
 mod lowest;
 mod seek;
 mod start;

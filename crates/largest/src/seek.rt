@@ -41,13 +41,16 @@ pub fn find(rows: &[u64], near: &[u64], k: usize, q: usize, few: usize, s: Set, 
     find(rows, near, k, q, search::trim::fewer(few), joined, kept)
 }
 
-// The same for any slack: at slack 1 by the search for a clique.
+// The same for any slack: at slack 1 by the search for a clique. The bound by colour classes is asked once: deeper in the search it seldom cuts.
 pub fn one(rows: &[u64], near: &[u64], k: usize, q: usize, s: Set, c: Set) -> Set
     requires { ⌜ Ready (masks (now rows)) (masks (now near)) (request k q) (mask s) (mask c) × (1 ≤ q) ⌝ }
     ensures { λ r. ⌜ Sought (masks (now (rows .entry))) (request k q) (mask s) (mask c) (mask r) ⌝ }
 {
     if k == 1 {
         return crate::cliques::clique(rows, q, sets::size(s), s, c);
+    }
+    if crate::colours::falls_short(rows, k, q, sets::size(s), c) {
+        return sets::empty();
     }
     find(rows, near, k, q, 3, s, c)
 }

@@ -20,7 +20,7 @@ use Rattle.largest.proofs.cliques.+clique+sweep.Lts-clique as clique-lt
 use Rattle.largest.proofs.cliques.sweep.Reads as sweep
 use Rattle.largest.proofs.cliques.sweep.Kinds as sweep-kinds
 use Rattle.largest.proofs.cliques.+clique+sweep.Lts-sweep as sweep-lts
-use Rattle.largest.proofs.cliques.colour.Reads as colour-reads
+use Rattle.largest.proofs.colours.colour.Reads as colour-reads
 use Rattle.sets.proofs.empty.Reads as empty-reads
 use Rattle.sets.proofs.get.Reads as get-reads
 use Rattle.sets.proofs.is_empty.Reads as is-empty-reads
@@ -107,7 +107,7 @@ module _ (t : ℕ) where
   clique-returns-2 c =
       let sized = c .before .before in
       sought-none (c .empty .ensures)
-      (coloured-empty (start sized .pre .1) (coloured-size _ _) (omega (arith, c .before .if2 .taken, sized .size .ensures .0)))
+      (coloured-empty (start sized .pre .1 .counted) (coloured-size _ _ _) (omega (arith, c .before .if2 .taken, sized .size .ensures .0)))
 
   clique-colour-requires : clique-lts.Need-colour-requires (clique-calls t) (clique-at t) clique.Post
   clique-colour-requires c κs = seek-judgeable (start (c .before) .pre .1)

@@ -1,9 +1,9 @@
 -- The lowest vertex that is left is chosen, and its neighbours are looked at no more: so no two that are chosen are adjacent.
 use Rattle.sets.specs.Words.{mask, masks}
-use Rattle.sets.specs.WalkLaws.{walk-goes-on}
+use Rattle.sets.specs.WalkLaws.{walk-goes-on, walk-over}
 use Rattle.largest.specs.ColourLaws.{Choosing, choosing-none, choosing-vertex, choosing-next, choosing-falls, choosing-all}
-use Rattle.largest.proofs.cliques.class.Statement.{statement}
-use Rattle.largest.proofs.cliques.class.Tie as tie
+use Rattle.largest.proofs.colours.class.Statement.{statement}
+use Rattle.largest.proofs.colours.class.Tie as tie
 
 abbrev Inv-loop : tie.InvT-loop
 Inv-loop rows chosen₀ left₀ chosen left = Choosing (masks rows) (mask left₀) (mask left) (mask chosen)
@@ -40,7 +40,7 @@ loop-again c =
     (chosen .with .ensures) (c .before .before .rest .ensures) (c .before .get .ensures) (c .minus .ensures)
 
 returns : tie.Need-returns Inv-loop μ-loop
-returns c = let at = c .before .before in choosing-all (start at .pre) (at .loop .inv)
+returns c = choosing-all (walk-over (c .before .is-empty .ensures) (c .if1 .left)) (c .before .before .loop .inv)
 
 pub class-spec : {M : Type 1} → statement M
 class-spec =
