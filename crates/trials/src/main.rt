@@ -1,8 +1,9 @@
-// Runs the edge cases of document 01 that are not proved, and compares the lists with trying all sets for graphs of 1 to 16 vertices.
+// Runs the edge cases of documents 01 and 02 that are not proved, and compares the lists with trying all sets for graphs of 1 to 16 vertices.
 // Prints a line for each group: how many cases it has, and how many of them differ. Where a list differs, its graph is printed as a sheet.
 mod all_sets;
 mod compare;
 mod graphs;
+mod largest_plex;
 mod lists;
 mod refusals;
 mod sheet;
@@ -30,6 +31,11 @@ fn sheet_cases() {
     tally::print(b"sheets written", sheet::written());
 }
 
+fn largest_cases() {
+    tally::print(b"largest k-plexes", largest_plex::found());
+    tally::print(b"refusals of the largest", largest_plex::refused());
+}
+
 // Of the pseudo-random graphs the first of each size is empty.
 fn comparisons() {
     tally::print(b"empty graphs", compare::group(graphs::RANDOM, 1));
@@ -52,5 +58,6 @@ fn main() {
     list_cases();
     refusal_cases();
     sheet_cases();
+    largest_cases();
     comparisons();
 }
