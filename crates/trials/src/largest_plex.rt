@@ -1,15 +1,26 @@
-// Edges of the call that finds the largest k-plex.
+// Edges of the call that finds the largest k-plex, and its answers beside those of trying all sets.
+use crate::all_sets;
 use crate::graphs;
 use crate::graphs::NOWHERE;
 use crate::refusals;
+use crate::sheet;
 use crate::tally;
 use crate::tally::Tally;
 use crate::words;
 use crate::words::GARBAGE;
+use judging::Refusal;
+use judging::Request;
 use largest::LargestFound;
+use sets::Set;
 
 // Of the pseudo-random graphs the first of each size is empty.
 const EMPTY: usize = graphs::RANDOM;
+
+// The slacks beside which all sets are tried.
+const MOST_SLACK: usize = 4;
+
+// A floor that is allowed beside each of them, for the sheet of a graph.
+const FLOOR: usize = 64;
 
 // The lowest 32 vertices.
 const LOWEST_32: u64 = 4294967295;
@@ -157,4 +168,57 @@ pub fn refused() -> Tally {
     cases = tally::with(cases, sound(1, u64::MAX, 7));
     cases = tally::with(cases, sound(1, 5, 11));
     tally::with(cases, sound(2, 31, 11))
+}
+
+// Is it right to refuse a forced set, where `best` is what trying all sets gives?
+fn rightly_refused(f: Refusal, best: Set) -> bool {
+    sets::is_empty(best) & refusals::is(f, 11, 0)
+}
+
+// Is the answer that of trying all sets?
+fn agrees(rows: &[u64], k: usize, forced: Set) -> bool {
+    let best = all_sets::largest(rows, k, forced);
+    let found = largest::largest(rows, k, forced);
+    match found {
+        LargestFound::Found(s) => !sets::is_empty(s) & sets::same(s, best),
+        LargestFound::Refused(f) => rightly_refused(f, best),
+    }
+}
+
+// One forced set: a case more. A difference prints the graph.
+fn with_forced(cases: Tally, rows: &[u64], k: usize, forced: Set) -> Tally {
+    let right = agrees(rows, k, forced);
+    if !right {
+        sheet::print(
+            rows,
+            Request {
+                slack: k,
+                floor: FLOOR,
+            },
+        );
+    }
+    tally::with(cases, right)
+}
+
+// One slack: every set, forced.
+fn slack(start: Tally, rows: &[u64], k: usize) -> Tally {
+    let most = all_sets::count_masks(rows);
+    let mut cases = start;
+    let mut mask = 0u64;
+    while mask < most {
+        cases = with_forced(cases, rows, k, sets::of_word(mask));
+        mask += 1;
+    }
+    cases
+}
+
+// One graph: every slack.
+pub fn graph(start: Tally, rows: &[u64]) -> Tally {
+    let mut cases = start;
+    let mut k = 0;
+    while k < MOST_SLACK {
+        k += 1;
+        cases = slack(cases, rows, k);
+    }
+    cases
 }
