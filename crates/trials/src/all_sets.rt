@@ -1,4 +1,4 @@
-// The list by trying all sets, straight from the definitions and apart from the search.
+// The list, and the largest k-plex, by trying all sets, straight from the definitions and apart from the search.
 ghost use Prim.Native.Nat.{_+_, _^_, _≤_, _<_};
 use crate::words;
 use sets::Set;
@@ -63,7 +63,7 @@ fn is_listed(rows: &[u64], k: usize, q: usize, s: Set) -> bool {
 }
 
 // How many masks the graph has.
-fn count_masks(rows: &[u64]) -> u64 {
+pub fn count_masks(rows: &[u64]) -> u64 {
     let n = sets::count(rows);
     if MOST_VERTICES < n {
         return 0;
@@ -106,4 +106,24 @@ pub fn keep_large(slots: &mut [u64], m: usize, q: usize) -> usize {
         i += 1;
     }
     kept
+}
+
+// Is s a k-plex that holds the forced vertices and is larger than `best`?
+fn is_larger(rows: &[u64], k: usize, forced: Set, best: Set, s: Set) -> bool {
+    sets::size(best) < sets::size(s) && sets::within(forced, s) && is_plex(rows, k, s)
+}
+
+// The largest k-plex that holds the forced vertices, and of those of its size the first in rising order; empty where none holds them.
+pub fn largest(rows: &[u64], k: usize, forced: Set) -> Set {
+    let most = count_masks(rows);
+    let mut best = sets::empty();
+    let mut mask = 0u64;
+    while mask < most {
+        let s = sets::of_word(mask);
+        if is_larger(rows, k, forced, best, s) {
+            best = s;
+        }
+        mask += 1;
+    }
+    best
 }

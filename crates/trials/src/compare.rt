@@ -1,7 +1,8 @@
-// Lists of the search beside those of trying all sets.
+// Lists of the search beside those of trying all sets; and the graphs for which a call is compared so.
 ghost use Prim.Native.Nat.{_≤_};
 use crate::all_sets;
 use crate::graphs;
+use crate::largest_plex;
 use crate::refusals;
 use crate::sheet;
 use crate::tally;
@@ -13,6 +14,9 @@ use judging::Request;
 use search::ListFound;
 
 const MOST_VERTICES: usize = 16;
+
+// The most vertices of which every set is forced.
+const MOST_FORCED: usize = 10;
 
 const MOST_SLACK: usize = 32;
 
@@ -121,37 +125,55 @@ fn slacks(start: Tally, rows: &[u64], masks: &mut [u64], slots: &mut [u64]) -> T
     cases
 }
 
+// The call that is compared.
+pub enum Call {
+    List,
+    Largest,
+}
+
 // The graph of the family with a vertex for each row.
-fn built(cases: Tally, rows: &mut [u64], family: usize, variant: usize) -> Tally {
+fn built(cases: Tally, call: Call, rows: &mut [u64], family: usize, variant: usize) -> Tally {
     graphs::build(rows, family, variant);
-    graph(cases, rows)
+    match call {
+        Call::List => graph(cases, rows),
+        Call::Largest => largest_plex::graph(cases, rows),
+    }
 }
 
 // The same with n rows.
-fn sized(cases: Tally, family: usize, n: usize, variant: usize) -> Tally {
+fn sized(cases: Tally, call: Call, family: usize, n: usize, variant: usize) -> Tally {
     let mut rows = [0u64; ROW_WORDS];
     let end = words::end(&rows, n);
-    built(cases, &mut rows[0..end], family, variant)
+    built(cases, call, &mut rows[0..end], family, variant)
 }
 
 // All variants with n vertices.
-fn variants(start: Tally, family: usize, n: usize, most: usize) -> Tally {
+fn variants(start: Tally, call: Call, family: usize, n: usize, most: usize) -> Tally {
     let mut cases = start;
     let mut variant = 0;
     while variant < most {
-        cases = sized(cases, family, n, variant);
+        cases = sized(cases, call, family, n, variant);
         variant += 1;
     }
     cases
 }
 
-// The graphs of a family with 1 to 16 vertices, in so many variants.
-pub fn group(family: usize, most: usize) -> Tally {
-    let mut cases = tally::none();
-    let mut n = 1;
-    while n <= MOST_VERTICES {
-        cases = variants(cases, family, n, most);
+// For the largest every set is forced, so the graphs are smaller.
+fn most_vertices(call: Call) -> usize {
+    match call {
+        Call::List => MOST_VERTICES,
+        Call::Largest => MOST_FORCED,
+    }
+}
+
+// The graphs of a family with 1 to 16 vertices, or to 10 for the largest, in so many variants.
+pub fn group(start: Tally, call: Call, family: usize, most: usize) -> Tally {
+    let vertices = most_vertices(call);
+    let mut cases = start;
+    let mut n = 0;
+    while n < vertices {
         n += 1;
+        cases = variants(cases, call, family, n, most);
     }
     cases
 }

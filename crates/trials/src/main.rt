@@ -1,13 +1,18 @@
-// Runs the edge cases of document 01 that are not proved, and compares the lists with trying all sets for graphs of 1 to 16 vertices.
-// Prints a line for each group: how many cases it has, and how many of them differ. Where a list differs, its graph is printed as a sheet.
+// Runs the edge cases of documents 01 and 02 that are not proved, and compares with trying all sets: the lists for graphs of 1 to 16 vertices, and the
+// largest k-plex for graphs of 1 to 10 with each set forced. Prints a line for each group: how many cases it has, and how many of them differ. Where an
+// answer differs, its graph is printed as a sheet.
 mod all_sets;
 mod compare;
 mod graphs;
+mod largest_plex;
 mod lists;
 mod refusals;
 mod sheet;
 mod tally;
 mod words;
+
+use crate::compare::Call;
+use crate::tally::Tally;
 
 // How many graphs of each number of vertices a group of pseudo-random ones has: ten of each density from 0 to 100 in steps of 5.
 const RANDOM: usize = 210;
@@ -30,27 +35,44 @@ fn sheet_cases() {
     tally::print(b"sheets written", sheet::written());
 }
 
+fn largest_cases() {
+    tally::print(b"largest k-plexes", largest_plex::found());
+    tally::print(b"refusals of the largest", largest_plex::refused());
+}
+
+// The lists of a family.
+fn listed(family: usize, most: usize) -> Tally {
+    compare::group(tally::none(), Call::List, family, most)
+}
+
 // Of the pseudo-random graphs the first of each size is empty.
 fn comparisons() {
-    tally::print(b"empty graphs", compare::group(graphs::RANDOM, 1));
-    tally::print(b"complete graphs", compare::group(graphs::COMPLETE, 1));
-    tally::print(b"rings", compare::group(graphs::RING, 1));
-    tally::print(b"paths", compare::group(graphs::PATH, 1));
-    tally::print(b"stars", compare::group(graphs::STAR, 1));
-    tally::print(
-        b"multipartite graphs",
-        compare::group(graphs::MULTIPARTITE, 4),
-    );
-    tally::print(b"disjoint unions", compare::group(graphs::UNION, 8));
-    tally::print(
-        b"pseudo-random graphs",
-        compare::group(graphs::RANDOM, RANDOM),
-    );
+    tally::print(b"empty graphs", listed(graphs::RANDOM, 1));
+    tally::print(b"complete graphs", listed(graphs::COMPLETE, 1));
+    tally::print(b"rings", listed(graphs::RING, 1));
+    tally::print(b"paths", listed(graphs::PATH, 1));
+    tally::print(b"stars", listed(graphs::STAR, 1));
+    tally::print(b"multipartite graphs", listed(graphs::MULTIPARTITE, 4));
+    tally::print(b"disjoint unions", listed(graphs::UNION, 8));
+    tally::print(b"pseudo-random graphs", listed(graphs::RANDOM, RANDOM));
+}
+
+// The largest k-plexes of the same graphs, where they have at most 10 vertices.
+fn largest_compared() -> Tally {
+    let mut cases = compare::group(tally::none(), Call::Largest, graphs::COMPLETE, 1);
+    cases = compare::group(cases, Call::Largest, graphs::RING, 1);
+    cases = compare::group(cases, Call::Largest, graphs::PATH, 1);
+    cases = compare::group(cases, Call::Largest, graphs::STAR, 1);
+    cases = compare::group(cases, Call::Largest, graphs::MULTIPARTITE, 4);
+    cases = compare::group(cases, Call::Largest, graphs::UNION, 8);
+    compare::group(cases, Call::Largest, graphs::RANDOM, RANDOM)
 }
 
 fn main() {
     list_cases();
     refusal_cases();
     sheet_cases();
+    largest_cases();
     comparisons();
+    tally::print(b"largest against all sets", largest_compared());
 }

@@ -8,6 +8,6 @@ pub variants-spec : {M : Type 1} → statement M
 variants-spec =
     tie.close
     (tie.spec
-    (λ family n most cases₀ variant₀ cases variant. Unit {0})
-    (λ family n most cases₀ variant₀ cases variant. most - variant)
+    (λ call family n most cases₀ variant₀ cases variant. Unit {0})
+    (λ call family n most cases₀ variant₀ cases variant. most - variant)
     (λ c. search needs) (λ c. search needs) (λ c. search needs) (λ c. search needs) (λ c. search needs) (λ c. search needs))
