@@ -1,12 +1,12 @@
 // The largest k-plex that holds forced vertices, and the lowest mask of one of its size.
 ghost use mathlib.Core.Path.{_≡_};
-ghost use Prim.Native.Nat.{_≤_};
+ghost use Prim.Native.Nat.{_+_, _<_, _≤_, max};
 ghost use Rattle.sets.specs.Set.{size};
 ghost use Rattle.sets.specs.Words.{width, mask, masks};
 ghost use Rattle.judging.specs.Request.{request};
 ghost use Rattle.search.specs.Ready.{Settled};
 ghost use Rattle.search.specs.NearRows.{Lent};
-ghost use Rattle.search.specs.Start.{Searchable, Candidates};
+ghost use Rattle.search.specs.Start.{Searchable};
 ghost use Rattle.largest.specs.Largest.{Holding, Largest};
 ghost use Rattle.largest.specs.Fit.{Forced};
 ghost use Rattle.largest.specs.Climb.{Held};
@@ -29,20 +29,39 @@ pub enum LargestFound {
 }
 
 // A first k-plex that holds f. The table drops nothing: it serves the floor 0.
-fn first(rows: &[u64], near: &[u64], k: usize, all: Set, f: Set) -> Set
-    requires { ⌜ Settled (masks (now rows)) (masks (now near)) (request k 0) × Candidates (masks (now rows)) (request k 0) (mask all)
-        × Forced (masks (now rows)) k (mask f) ⌝ }
+fn first(rows: &[u64], near: &[u64], k: usize, f: Set) -> Set
+    requires { ⌜ Settled (masks (now rows)) (masks (now near)) (request k 0) × Forced (masks (now rows)) k (mask f) ⌝ }
     ensures { λ r. ⌜ Holding (masks (now (rows .entry))) k (mask f) (mask r) ⌝ }
 {
+    let all = sets::full(sets::count(rows));
     let c = start::fit(rows, near, k, 0, all, f);
     start::first(rows, near, k, f, c)
 }
 
-// Fills the table for the floor `size`, unless that is done: `floor` is 0 before. Below 2k - 1 members a k-plex may fall apart, so the reach says nothing;
-// at slack 1 the table is not used.
+// The larger of two numbers.
+fn larger(a: usize, b: usize) -> usize
+    ensures { λ r. ⌜ r ≡ max a b ⌝ }
+{
+    if a < b {
+        return b;
+    }
+    a
+}
+
+// Fills the table so that it drops nothing: it then serves every floor.
+fn clear(rows: &[u64], k: usize, near: &mut [u64])
+    requires { ⌜ Searchable (masks (now rows)) (request k 0) × Lent (masks (now rows)) (masks (now near)) ⌝ }
+    ensures { λ _. ⌜ Settled (masks (now (rows .entry))) (masks (now (near .exit))) (request k 0) ⌝ }
+{
+    let all = sets::full(sets::count(rows));
+    search::near::fill(rows, k, 0, all, false, false, near);
+}
+
+// Fills the table for the search for more than `size` members, and gives its floor, which is 0 before and not changed again. Below 2k - 1 members a k-plex
+// may fall apart, so the reach says nothing; at slack 1 the table is not used.
 fn refill(rows: &[u64], k: usize, floor: usize, size: usize, near: &mut [u64]) -> usize
-    requires { ⌜ Settled (masks (now rows)) (masks (now near)) (request k floor) × (floor ≤ size) × (size ≤ width) ⌝ }
-    ensures { λ r. ⌜ Settled (masks (now (rows .entry))) (masks (now (near .exit))) (request k r) × (r ≤ size) ⌝ }
+    requires { ⌜ Settled (masks (now rows)) (masks (now near)) (request k floor) × (floor ≤ size) × (size < width) ⌝ }
+    ensures { λ r. ⌜ Settled (masks (now (rows .entry))) (masks (now (near .exit))) (request k r) × (r ≤ size + 1) ⌝ }
 {
     if k == 1 {
         return floor;
@@ -50,12 +69,23 @@ fn refill(rows: &[u64], k: usize, floor: usize, size: usize, near: &mut [u64]) -
     if 0 < floor {
         return floor;
     }
-    if size + 1 < 2 * k {
+    if size + 2 < 2 * k {
         return floor;
     }
-    let all = search::candidates(rows, k, size, true);
-    search::near::fill(rows, k, size, all, true, 2 * k <= size, near);
-    size
+    let target = larger(size, 2 * k - 1);
+    let all = search::candidates(rows, k, target, true);
+    search::near::fill(rows, k, target, all, true, 2 * k <= target, near);
+    target
+}
+
+// Makes the table, which is filled for `floor`, serve the floor `size`.
+fn settle(rows: &[u64], k: usize, floor: usize, size: usize, near: &mut [u64])
+    requires { ⌜ Settled (masks (now rows)) (masks (now near)) (request k floor) × (size ≤ width) ⌝ }
+    ensures { λ _. ⌜ Settled (masks (now (rows .entry))) (masks (now (near .exit))) (request k size) ⌝ }
+{
+    if size < floor {
+        clear(rows, k, near);
+    }
 }
 
 // A k-plex of at least q members that holds f; empty where there is none.
@@ -73,19 +103,19 @@ fn climb(rows: &[u64], k: usize, f: Set, near: &mut [u64]) -> Set
     requires { ⌜ Searchable (masks (now rows)) (request k 0) × Forced (masks (now rows)) k (mask f) × Lent (masks (now rows)) (masks (now near)) ⌝ }
     ensures { λ r. ⌜ Largest (masks (now (rows .entry))) k (mask f) (mask r) ⌝ }
 {
+    clear(rows, k, near);
     let n = sets::count(rows);
-    let all = sets::full(n);
-    search::near::fill(rows, k, 0, all, false, false, near);
-    let mut best = first(rows, near, k, all, f);
+    let mut best = first(rows, near, k, f);
     let mut floor = 0;
     while sets::size(best) < n {
         let size = sets::size(best);
         floor = refill(rows, k, floor, size, near);
-        let larger = holding(rows, near, k, size + 1, f);
-        if sets::is_empty(larger) {
+        let found = holding(rows, near, k, size + 1, f);
+        if sets::is_empty(found) {
+            settle(rows, k, floor, size, near);
             return lowest::lowest(rows, near, k, f, best);
         }
-        best = larger;
+        best = found;
     }
     lowest::lowest(rows, near, k, f, best)
 }

@@ -52,6 +52,8 @@ pub fn lowest(rows: &[u64], near: &[u64], k: usize, f: Set, w: Set) -> Set
     ensures { λ r. ⌜ Largest (masks (now (rows .entry))) k (mask f) (mask r) ⌝ }
 {
     let q = sets::size(w);
+    // at slack 1 there is nothing to sift
+    let few = k - 1;
     let all = search::candidates(rows, k, q, true);
     let mut s = f;
     let mut left = crate::start::fit(rows, near, k, q, all, f);
@@ -61,7 +63,8 @@ pub fn lowest(rows: &[u64], near: &[u64], k: usize, f: Set, w: Set) -> Set
         let rest = sets::without(left, h);
         let lower = spare(rows, near, k, q, s, left, h, rest, best);
         if sets::is_empty(lower) {
-            left = search::trim::beside(rows, near, k, s, left, h);
+            let close = search::trim::beside(rows, near, k, s, left, h);
+            left = search::trim::sift(rows, k, q, few, s, left, h, close);
             s = sets::with(s, h);
         } else {
             best = lower;

@@ -18,6 +18,8 @@ pub fn fit(rows: &[u64], near: &[u64], k: usize, q: usize, all: Set, f: Set) -> 
         × Forced (masks (now rows)) k (mask f) ⌝ }
     ensures { λ r. ⌜ Fitted (masks (now (rows .entry))) (request k q) (mask f) (mask r) ⌝ }
 {
+    // at slack 1 there is nothing to sift
+    let few = k - 1;
     let mut s = sets::empty();
     let mut c = all;
     let mut left = f;
@@ -28,20 +30,20 @@ pub fn fit(rows: &[u64], near: &[u64], k: usize, q: usize, all: Set, f: Set) -> 
         }
         left = sets::rest(left, v);
         let close = search::trim::beside(rows, near, k, s, c, v);
-        c = search::trim::sift(rows, k, q, 1, s, c, v, close);
+        c = search::trim::sift(rows, k, q, few, s, c, v, close);
         s = sets::with(s, v);
     }
     c
 }
 
-// What v misses of s and c. Where s is `heavy`, one of its members outweighs all candidates.
+// What v misses of s and c. Where s is `heavy`, one of its members counts as three candidates.
 fn cost(rows: &[u64], heavy: bool, s: Set, c: Set, v: usize) -> usize
     requires { ⌜ v < length (masks (now rows)) ⌝ }
 {
     let beside = judging::plex::missing(rows, c, v);
     let inside = judging::plex::missing(rows, s, v);
     if heavy {
-        return inside * sets::WIDTH + beside;
+        return 3 * inside + beside;
     }
     inside + beside
 }
@@ -81,12 +83,15 @@ fn greedy(rows: &[u64], near: &[u64], k: usize, heavy: bool, f: Set, c: Set) -> 
     s
 }
 
-// The larger of two k-plexes, each grown by a cost of its own: neither cost is the better one on every graph.
+// The larger of two k-plexes, each grown by a cost of its own: neither cost is the better one on every graph. At slack 1 they are the same.
 pub fn first(rows: &[u64], near: &[u64], k: usize, f: Set, c: Set) -> Set
     requires { ⌜ Ready (masks (now rows)) (masks (now near)) (request k 0) (mask f) (mask c) ⌝ }
     ensures { λ r. ⌜ Holding (masks (now (rows .entry))) k (mask f) (mask r) ⌝ }
 {
     let a = greedy(rows, near, k, false, f, c);
+    if k == 1 {
+        return a;
+    }
     let b = greedy(rows, near, k, true, f, c);
     if sets::size(a) < sets::size(b) {
         return b;

@@ -8,12 +8,9 @@ use borrow.Author.Needs.{needs}
 use Rattle.sets.specs.Set as Set
 use Rattle.sets.specs.Set.{size, full}
 use Rattle.sets.specs.Words.{width, mask, masks}
-use Rattle.sets.specs.RangeLaws.{true-is-not-false}
 use Rattle.sets.specs.WalkLaws.{empty-holds, empty-fails}
 use Rattle.judging.specs.Request.{request}
 use Rattle.search.specs.Ready.{Settled}
-use Rattle.search.specs.Start.{Candidates}
-use Rattle.search.specs.StartLaws.{table-fits, all-candidates, start-pairing, filled-settled}
 use Rattle.largest.specs.Largest.{Holding}
 use Rattle.largest.specs.ClimbLaws.{settled-higher, held-top, all-top}
 use Rattle.largest.proofs.climb.Statement.{statement}
@@ -26,40 +23,24 @@ Inv-loop rows k f near₀ n best₀ floor₀ near best floor =
 abbrev μ-loop : tie.MeasureT-loop
 μ-loop rows k f near₀ n best₀ floor₀ near best floor = n - size (mask best)
 
--- the entry, as it is seen from the set of all vertices, and from the loop
-abbrev start : tie.After-full Inv-loop μ-loop → tie.Start Inv-loop μ-loop
-start c = c .before .before .before .before
+-- the entry, as it is seen from the number of vertices, and from the loop
+abbrev start : tie.After-count Inv-loop μ-loop → tie.Start Inv-loop μ-loop
+start c = c .before .before .before .before .before .before .before
 
-abbrev filled : tie.At-loop Inv-loop μ-loop → tie.After-full Inv-loop μ-loop
-filled c = c .before .before .before .before .before .before .before
+abbrev counted : tie.At-loop Inv-loop μ-loop → tie.After-count Inv-loop μ-loop
+counted c = c .before .before .before
 
 abbrev entry : tie.At-loop Inv-loop μ-loop → tie.Start Inv-loop μ-loop
-entry c = start (filled c)
+entry c = start (counted c)
 
-all-vertices : (c : tie.After-full Inv-loop μ-loop) → let at = start c .args in Candidates (masks (now (at .rows))) (request (at .k) 0) (mask (c .full .result))
-all-vertices c = all-candidates (c .full .ensures ∙ ap full (c .before .count .ensures))
-
-full-requires : tie.Need-full-requires Inv-loop μ-loop
-full-requires c κs =
-    let sized = c .before .before .before .pre .0 .sized in
-    (omega (arith, c .count .ensures, sized .some), omega (arith, c .count .ensures, sized .most))
-
-fill-requires : tie.Need-fill-requires Inv-loop μ-loop
-fill-requires c κs =
-    let at = c .before in
-    let pre = start at .pre in
-    (pre .2, start-pairing (pre .0) (all-vertices at), (λ e. absurd (true-is-not-false (sym e))))
+clear-requires : tie.Need-clear-requires Inv-loop μ-loop
+clear-requires c κs = let pre = c .before .before .before .pre in (pre .0, pre .2)
 
 first-requires : tie.Need-first-requires Inv-loop μ-loop
-first-requires c κs =
-    let at = c .before .before .before .before .before in
-    let pre = start at .pre in
-    (filled-settled (pre .0) (pre .2 .room) (c .before .before .before .fill .ensures), all-vertices at, pre .1)
+first-requires c κs = (c .before .before .before .before .clear .ensures, start (c .before) .pre .1)
 
 loop-holds : tie.Need-loop-holds Inv-loop μ-loop
-loop-holds c =
-    let pre = start (c .before .before .before .before .before .before) .pre in
-    (c .first .ensures, filled-settled (pre .0) (pre .2 .room) (c .before .before .before .before .fill .ensures), omega arith, refl)
+loop-holds c = (c .first .ensures, c .before .before .before .before .before .clear .ensures, omega arith, refl)
 
 -- ---- one turn
 
@@ -75,7 +56,7 @@ small c =
       c .before .if1 .taken,
       c .before .before .size .ensures .0,
       c .size2 .ensures .0,
-      filled loop .before .count .ensures,
+      counted loop .count .ensures,
       entry loop .pre .0 .sized .most,
     )
 
@@ -83,32 +64,39 @@ refill-requires : tie.Need-refill-requires Inv-loop μ-loop
 refill-requires c κs =
     let size = c .before in
     let inv = turn size .loop .inv in
-    (inv .1, omega (arith, inv .2, size .size2 .ensures .0), size .size2 .ensures .1)
+    (inv .1, omega (arith, inv .2, size .size2 .ensures .0), omega (arith, small size))
 
 holding-requires : tie.Need-holding-requires Inv-loop μ-loop
 holding-requires c κs =
     let refill = c .before .before .before in
     let size = refill .before .before in
-    (settled-higher (omega (arith, refill .refill .ensures .1)) (small size) (refill .refill .ensures .0), entry (turn size) .pre .1, omega arith)
+    (settled-higher (refill .refill .ensures .1) (small size) (refill .refill .ensures .0), entry (turn size) .pre .1, omega arith)
+
+settle-requires : tie.Need-settle-requires Inv-loop μ-loop
+settle-requires c κs =
+    let refill = c .before .before .before .before .before .before .before in
+    (refill .refill .ensures .0, refill .before .before .size2 .ensures .1)
 
 lowest-requires : tie.Need-lowest-requires Inv-loop μ-loop
 lowest-requires c κs =
-    let none = c .before in
+    let settle = c .before .before .before in
+    let none = settle .before .before in
     let held = none .before .before in
-    let refill = held .before .before .before .before in
-    let size = refill .before .before in
+    let size = held .before .before .before .before .before .before in
     let loop = turn size in
     let same = size .size2 .ensures .0 in (
-      settled-higher (omega (arith, refill .refill .ensures .1, same)) (omega (arith, small size, same)) (refill .refill .ensures .0),
+      settled-higher (omega (arith, same)) (omega (arith, small size, same)) (settle .settle .ensures),
       entry loop .pre .1,
       held-top (loop .loop .inv .0) (omega (arith, same)) (held .holding .ensures) (empty-holds (none .before .is-empty .ensures) (none .if2 .taken)),
     )
 
 same-length : tie.Need-same-length Inv-loop μ-loop
 same-length c =
-    let refill = c .before .before .before .before .before .before .before .before in
+    let settle = c .before .before .before .before in
+    let refill = settle .before .before .before .before .before .before .before .before in
     let loop = turn (refill .before .before) in
-    refill .refill .kept .1 .1 .1 .1 .0 ∙ loop .loop .inv .3 ∙ loop .before .before .before .before .before .fill .kept .1 .1 .1 .1 .1 .1 .0
+    settle .settle .kept .1 .1 .1 .1 .0 ∙ refill .refill .kept .1 .1 .1 .1 .0 ∙ loop .loop .inv .3
+    ∙ loop .before .before .before .before .before .before .clear .kept .1 .1 .0
 
 -- a larger one was found
 more : (c : tie.Else2 Inv-loop μ-loop) → let held = c .before .before in let size = held .before .before .before .before .before .before in
@@ -140,17 +128,17 @@ lowest-requires-2 c κs =
     let size = c .before .before .size .ensures in (
       settled-higher (inv .2) (omega (arith, size)) (inv .1),
       entry loop .pre .1,
-      all-top (inv .0) (omega (arith, c .before .if1 .left, size .0, filled loop .before .count .ensures)),
+      all-top (inv .0) (omega (arith, c .before .if1 .left, size .0, counted loop .count .ensures)),
     )
 
 same-length-2 : tie.Need-same-length-2 Inv-loop μ-loop
 same-length-2 c =
     let loop = c .before .before .before .before in
-    loop .loop .inv .3 ∙ loop .before .before .before .before .before .fill .kept .1 .1 .1 .1 .1 .1 .0
+    loop .loop .inv .3 ∙ loop .before .before .before .before .before .before .clear .kept .1 .1 .0
 
 pub climb-spec : {M : Type 1} → statement M
 climb-spec =
     tie.close
-    (tie.spec Inv-loop μ-loop (λ c κs. tt) full-requires fill-requires first-requires loop-holds (λ c κs. tt) (λ c κs. tt) refill-requires
-    (λ c. search needs) holding-requires (λ c κs. tt) lowest-requires same-length (λ c. search needs) loop-less loop-again lowest-requires-2
-    same-length-2 (λ c. search needs))
+    (tie.spec Inv-loop μ-loop clear-requires (λ c κs. tt) first-requires loop-holds (λ c κs. tt) (λ c κs. tt) refill-requires
+    (λ c. search needs) holding-requires (λ c κs. tt) settle-requires lowest-requires same-length (λ c. search needs) loop-less loop-again
+    lowest-requires-2 same-length-2 (λ c. search needs))

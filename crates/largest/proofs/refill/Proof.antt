@@ -10,29 +10,35 @@ use Rattle.largest.specs.ClimbLaws.{settled-higher}
 use Rattle.largest.proofs.refill.Statement.{statement}
 use Rattle.largest.proofs.refill.Tie as tie
 
--- the request with the floor `size`
-searchable : (c : tie.Start) → Searchable (masks (now (c .args .rows))) (request (c .args .k) (c .args .size))
-searchable c = settled-searchable (settled-higher (c .pre .1) (c .pre .2) (c .pre .0))
+-- the request with the floor that the table is filled for
+searchable : (c : tie.After-larger) → let at = c .before .before .before .before .before .before in
+    Searchable (masks (now (at .args .rows))) (request (at .args .k) (c .larger .result))
+searchable c =
+    let start = c .before .before .before .before .before .before in
+    settled-searchable (settled-higher (omega (arith, start .pre .1, c .larger .ensures)) (omega (arith, start .pre .2, c .before .if3 .left, c .larger .ensures))
+    (start .pre .0))
 
 candidates-requires : tie.Need-candidates-requires
-candidates-requires c κs = searchable (c .before .before .before .before .before)
+candidates-requires c κs = searchable c
 
 fill-requires : tie.Need-fill-requires
 fill-requires c κs =
-    let start = c .before .before .before .before .before .before .before in
-    let ask = searchable start in (
-      record { sized = ask .sized; room = start .pre .0 .long },
+    let target = c .before .before in
+    let ask = searchable target in (
+      record { sized = ask .sized; room = target .before .before .before .before .before .before .pre .0 .long },
       start-pairing ask (c .before .candidates .ensures),
-      (λ e. omega (arith, c .before .before .if3 .left)),
+      (λ e. omega (arith, target .larger .ensures)),
     )
 
 returns-4 : tie.Need-returns-4
 returns-4 c =
-    let start = c .before .before .before .before .before .before .before .before .before .before in
-    (filled-settled (searchable start) (start .pre .0 .long) (c .before .before .fill .ensures), omega arith)
+    let fill = c .before .before in
+    let target = fill .before .before .before in
+    let start = target .before .before .before .before .before .before in
+    (filled-settled (searchable target) (start .pre .0 .long) (fill .fill .ensures), omega (arith, target .larger .ensures, target .before .if3 .left))
 
 pub refill-spec : {M : Type 1} → statement M
 refill-spec =
     tie.close
-    (tie.spec (λ c. search needs) (λ c. search needs) (λ c. search needs) (λ c. search needs) (λ c. search needs) candidates-requires (λ c. search needs)
-    fill-requires (λ c. search needs) returns-4)
+    (tie.spec (λ c. search needs) (λ c. search needs) (λ c. search needs) (λ c. search needs) (λ c. search needs) (λ c. search needs) (λ c. search needs)
+    (λ c κs. tt) candidates-requires (λ c. search needs) fill-requires (λ c. search needs) returns-4)

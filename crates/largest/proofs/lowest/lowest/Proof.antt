@@ -8,18 +8,17 @@ use Rattle.sets.specs.WalkLaws.{walk-goes-on, walk-over, without-less, empty-ho
 use Rattle.judging.specs.Request.{request}
 use Rattle.search.specs.Ready.{Settled}
 use Rattle.search.specs.StartLaws.{settled-searchable}
-use Rattle.search.specs.Trim.{Beside}
-use Rattle.search.specs.ReadyLaws.{ready-vertex, ready-joinable}
+use Rattle.search.specs.ReadyLaws.{ready-vertex, ready-joinable, ready-siftable}
 use Rattle.largest.specs.Climb.{Sparing, Lowering}
 use Rattle.largest.specs.ClimbLaws.{settled-higher, top-some, lowering-none, lowering-lower, lowering-with, lowering-all}
 use Rattle.largest.proofs.lowest.lowest.Statement.{statement}
 use Rattle.largest.proofs.lowest.lowest.Tie as tie
 
 abbrev Inv-loop : tie.InvT-loop
-Inv-loop rows near k q s₀ left₀ best₀ s left best = Lowering (masks rows) (masks near) (request k q) (mask s₀) (mask s) (mask left) (mask best)
+Inv-loop rows near k q few s₀ left₀ best₀ s left best = Lowering (masks rows) (masks near) (request k q) (mask s₀) (mask s) (mask left) (mask best)
 
 abbrev μ-loop : tie.MeasureT-loop
-μ-loop rows near k q s₀ left₀ best₀ s left best = mask left
+μ-loop rows near k q few s₀ left₀ best₀ s left best = mask left
 
 -- the entry, the loop's record at this turn, and the turn's highest candidate
 abbrev start : tie.After-size Inv-loop μ-loop → tie.Start Inv-loop μ-loop
@@ -50,12 +49,6 @@ sparing c =
       within = inv .within;
     }
 
--- what is left beside the highest candidate
-left : (c : tie.After-beside Inv-loop μ-loop) → let spare = c .before .before .before in let at = turn (spare .before .before) in let args = start (sized at) .args in
-    Beside (masks (now (args .rows))) (request (args .k) (sized at .size .result)) (mask (at .loop .s)) (mask (at .loop .left))
-    (spare .before .before .highest .result) (mask (c .beside .result))
-left c = c .beside .ensures _ refl (turn (c .before .before .before .before .before) .loop .inv .ready .settled .near)
-
 candidates-requires : tie.Need-candidates-requires Inv-loop μ-loop
 candidates-requires c κs = settled-searchable (settled c)
 
@@ -78,25 +71,31 @@ without-requires c κs =
 beside-requires : tie.Need-beside-requires Inv-loop μ-loop
 beside-requires c κs = let high = c .before .before .before .before in ready-joinable (turn high .loop .inv .ready) _ (high .highest .ensures .member)
 
+sift-requires : tie.Need-sift-requires Inv-loop μ-loop
+sift-requires c κs =
+    let high = c .before .before .before .before .before in
+    let ready = turn high .loop .inv .ready in
+    ready-siftable ready _ (high .highest .ensures .member) (c .beside .ensures _ refl (ready .settled .near))
+
 with-requires : tie.Need-with-requires Inv-loop μ-loop
 with-requires c κs =
-    let high = c .before .before .before .before .before in
+    let high = c .before .before .before .before .before .before in
     let ready = turn high .loop .inv .ready in
     omega (arith, ready-vertex ready _ (high .highest .ensures .member), ready .settled .sized .most)
 
 loop-less : tie.Need-loop-less Inv-loop μ-loop
 loop-less c =
-    let beside = c .before in
-    let high = beside .before .before .before .before .before in
-    omega (arith, sub-number _ _ (left beside .kept .part), without-less _ _ (high .highest .ensures .member))
+    let sift = c .before in
+    let high = sift .before .before .before .before .before .before in
+    omega (arith, sub-number _ _ (sift .sift .ensures .kept .part), without-less _ _ (high .highest .ensures .member))
 
 loop-again : tie.Need-loop-again Inv-loop μ-loop
 loop-again c =
-    let beside = c .before in
-    let none = beside .before in
+    let sift = c .before in
+    let none = sift .before .before in
     let spare = none .before .before in
     lowering-with (turn (spare .before .before) .loop .inv) (sparing (spare .before)) (spare .spare .ensures)
-    (empty-holds (none .before .is-empty2 .ensures) (none .if2 .taken)) (left beside) (c .with .ensures)
+    (empty-holds (none .before .is-empty2 .ensures) (none .if2 .taken)) (sift .sift .ensures) (c .with .ensures)
 
 loop-less-2 : tie.Need-loop-less-2 Inv-loop μ-loop
 loop-less-2 c =
@@ -115,5 +114,5 @@ returns c = lowering-all (c .before .before .loop .inv) (walk-over (c .before .i
 pub lowest-spec : {M : Type 1} → statement M
 lowest-spec =
     tie.close
-    (tie.spec Inv-loop μ-loop (λ c κs. tt) candidates-requires fit-requires loop-holds (λ c κs. tt) highest-requires without-requires
-    (λ c κs. sparing c) (λ c κs. tt) beside-requires with-requires loop-less loop-again loop-less-2 loop-again-2 returns)
+    (tie.spec Inv-loop μ-loop (λ c κs. tt) (λ c. omega (arith, start c .pre .0 .slack .0)) candidates-requires fit-requires loop-holds (λ c κs. tt) highest-requires without-requires
+    (λ c κs. sparing c) (λ c κs. tt) beside-requires sift-requires with-requires loop-less loop-again loop-less-2 loop-again-2 returns)

@@ -5,4 +5,5 @@ use Rattle.largest.proofs.start.first.Tie as tie
 
 pub first-spec : {M : Type 1} → statement M
 first-spec =
-    tie.close (tie.spec (λ c. search needs) (λ c. search needs) (λ c κs. tt) (λ c κs. tt) (λ c. search needs) (λ c. search needs))
+    tie.close
+    (tie.spec (λ c. search needs) (λ c. search needs) (λ c. search needs) (λ c κs. tt) (λ c κs. tt) (λ c. search needs) (λ c. search needs))

@@ -1,4 +1,5 @@
 -- Each forced vertex joins as a candidate does in the search, so that every listed plex that holds all of them is still found.
+use native.Mathlib.Omega.{arith}
 use mathlib.Core.Path.{refl, sym, _∙_}
 use borrow.Author.Tests.{not-true, not-false}
 use denote.Ref.{now}
@@ -16,10 +17,10 @@ use Rattle.largest.proofs.start.fit.Statement.{statement}
 use Rattle.largest.proofs.start.fit.Tie as tie
 
 abbrev Inv-loop : tie.InvT-loop
-Inv-loop rows near k q s₀ c₀ left₀ s c left = Joining (masks rows) (masks near) (request k q) (mask left₀) (mask s) (mask c) (mask left)
+Inv-loop rows near k q few s₀ c₀ left₀ s c left = Joining (masks rows) (masks near) (request k q) (mask left₀) (mask s) (mask c) (mask left)
 
 abbrev μ-loop : tie.MeasureT-loop
-μ-loop rows near k q s₀ c₀ left₀ s c left = mask left
+μ-loop rows near k q few s₀ c₀ left₀ s c left = mask left
 
 -- the loop's record at this turn, and the entry
 abbrev turn : tie.After-has Inv-loop μ-loop → tie.At-loop Inv-loop μ-loop
@@ -77,5 +78,5 @@ returns-2 c = joining-all (c .before .before .loop .inv) (walk-over (c .before .
 pub fit-spec : {M : Type 1} → statement M
 fit-spec =
     tie.close
-    (tie.spec Inv-loop μ-loop (λ c κs. tt) loop-holds (λ c κs. tt) lowest-requires (λ c κs. c .lowest .ensures .fits) (λ c κs. tt) returns
+    (tie.spec Inv-loop μ-loop (λ c. omega (arith, c .before .before .pre .0 .slack .0)) (λ c κs. tt) loop-holds (λ c κs. tt) lowest-requires (λ c κs. c .lowest .ensures .fits) (λ c κs. tt) returns
     rest-requires beside-requires sift-requires with-requires loop-less loop-again returns-2)
