@@ -20,13 +20,13 @@ use Rattle.judging.specs.Request.{Request, request}
 use Rattle.judging.specs.PlexLaws.{small-plex}
 use Rattle.lists.specs.Listing.{Listed}
 use Rattle.search.specs.Found.{Found, Near}
-use Rattle.search.specs.FoundLaws.{compatible-part, without-found, with-found}
+use Rattle.search.specs.FoundLaws.{without-found, with-found}
 use Rattle.search.specs.Trim.{Beside}
 use Rattle.search.specs.Ready.{Settled, Ready}
 use Rattle.largest.specs.Largest.{Holding, Largest}
 use Rattle.largest.specs.LargestLaws.{none-larger, top-listed}
 use Rattle.largest.specs.Sought.{Within, Sought}
-use Rattle.largest.specs.SoughtLaws.{sought-some, within-part}
+use Rattle.largest.specs.SoughtLaws.{sought-some, within-part, without-ready}
 use Rattle.largest.specs.Fit.{Fitted}
 use Rattle.largest.specs.FitLaws.{join-ready}
 use Rattle.largest.specs.Climb.{Top, Held, Highest, Topmost, Sparing, Spared, Lowering}
@@ -94,11 +94,7 @@ topmost-all z h = record { member = h .member; most = λ u i. h .passed u i (non
 
 module _ {g t : List ℕ} {ask : Request} {s c h rest w : ℕ} (p : Sparing g t ask s c h rest w) where
   pub sparing-ready : Ready g t ask s rest
-  sparing-ready =
-      rw (p .others) (record {
-        settled = p .ready .settled;
-        fine = compatible-part (without c h) (minus-sub c (2 ^ h)) (p .ready .fine);
-      })
+  sparing-ready = without-ready h (p .others) (p .ready)
 
   -- the digits above h are those of s
   above : (x : ℕ) → Sub s x → Sub x (bitOr s c) → (u : ℕ) → h < u → bit x u ≡ bit s u

@@ -18,8 +18,9 @@ use Rattle.judging.specs.Request.{Request}
 use Rattle.judging.specs.Graph.{missing}
 use Rattle.judging.specs.Plex.{Plex, extendable}
 use Rattle.search.specs.Found.{Empty, Short}
-use Rattle.search.specs.FoundLaws.{short-empty, extendable-empty, stuck-empty, without-found, with-found}
-use Rattle.search.specs.Ready.{Whole, Split}
+use Rattle.search.specs.FoundLaws.{short-empty, extendable-empty, stuck-empty, compatible-part, without-found, with-found}
+use Rattle.search.specs.Trim.{Beside}
+use Rattle.search.specs.Ready.{Ready, Whole}
 use Rattle.search.specs.ReadyLaws.{whole-inside}
 use Rattle.largest.specs.Sought.{Within, Sought}
 
@@ -79,36 +80,24 @@ module _ {g t : List ℕ} {ask : Request} {s c a : ℕ} (h : Whole g t ask s c a
 
 -- ---- with and without a vertex
 
-module _ {g t : List ℕ} {ask : Request} {s c v r rest o : ℕ} (h : Split g t ask s c v r rest) (w : Sought g ask s rest o) where
-  pub sought-without : 0 < o → Sought g ask s c o
-  sought-without l =
-      record {
-        some = λ _. within-part c (minus-sub c (2 ^ v)) (rw (h .others) at (w .some l));
-        none = λ z. absurd (omega (arith, z, l));
-      }
+module _ {g : List ℕ} {ask : Request} {s c rest : ℕ} (v : ℕ) (e : rest ≡ without c v) where
+  pub without-ready : {t : List ℕ} → Ready g t ask s c → Ready g t ask s rest
+  without-ready h = rw e (record { settled = h .settled; fine = compatible-part (without c v) (minus-sub c (2 ^ v)) (h .fine) })
 
-  pub sought-branches : {j p : ℕ} → o ≡ 0 → j ≡ with s v → Sought g ask j r p → Sought g ask s c p
-  sought-branches {j} {p} z e y =
-      record {
-        some = λ l. let found : Within g (ask .slack) (ask .floor) (with s v) r p = rw e at (y .some l) in
-            record {
-              below = found .below;
-              plexed = found .plexed;
-              large = found .large;
-              lower = sub-trans s (with s v) p (sub-with s v) (found .lower);
-              upper = λ u. omega (
-                arith,
-                found .upper u,
-                bit-or (with s v) r u,
-                bit-with s v u,
-                h .beside .kept .part u,
-                bit-minus c (2 ^ v) u,
-                single-in c v u (h .member),
-                bit-or s c u,
-              );
-            };
-        none = λ q x f.
-            let first : Empty g ask s (without c v) = rw (h .others) at (w .none z) in
-            let second : Empty g ask (with s v) r = rw e at (y .none q) in
-            by-bit x v (λ i. second x (with-found (h .member) (h .beside) f i)) (λ n. first x (without-found v f n));
-      }
+  module _ {o : ℕ} (w : Sought g ask s rest o) where
+    pub sought-without : 0 < o → Sought g ask s c o
+    sought-without l =
+        record {
+          some = λ _. within-part c (minus-sub c (2 ^ v)) (rw e at (w .some l));
+          none = λ z. absurd (omega (arith, z, l));
+        }
+
+    pub sought-branches : {r j p : ℕ} → o ≡ 0 → In v c → Beside g ask s c v r → j ≡ with s v → Sought g ask j r p → Sought g ask s c p
+    sought-branches {r} {j} {p} z i b f y =
+        record {
+          some = λ l. within-with c v i (sub-trans r (without c v) c (b .kept .part) (minus-sub c (2 ^ v))) (rw f at (y .some l));
+          none = λ q x found.
+              let first : Empty g ask s (without c v) = rw e at (w .none z) in
+              let second : Empty g ask (with s v) r = rw f at (y .none q) in
+              by-bit x v (λ j. second x (with-found i b found j)) (λ n. first x (without-found v found n));
+        }

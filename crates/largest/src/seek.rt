@@ -30,13 +30,12 @@ pub fn find(rows: &[u64], near: &[u64], k: usize, q: usize, few: usize, s: Set, 
         return sets::empty();
     }
     let v = search::choice::pick(rows, a, from);
-    let rest = sets::without(c, v);
-    let close = search::trim::beside(rows, near, k, s, c, v);
-    let kept = search::trim::sift(rows, k, q, few, s, c, v, close);
-    let others = find(rows, near, k, q, few, s, rest);
+    let others = find(rows, near, k, q, few, s, sets::without(c, v));
     if !sets::is_empty(others) {
         return others;
     }
+    let close = search::trim::beside(rows, near, k, s, c, v);
+    let kept = search::trim::sift(rows, k, q, few, s, c, v, close);
     let joined = sets::with(s, v);
     find(rows, near, k, q, search::trim::fewer(few), joined, kept)
 }

@@ -83,16 +83,20 @@ fn greedy(rows: &[u64], near: &[u64], k: usize, heavy: bool, f: Set, c: Set) -> 
     s
 }
 
-// The larger of two k-plexes, each grown by a cost of its own: neither cost is the better one on every graph. At slack 1 they are the same.
+// The larger of two k-plexes, each grown by a cost of its own: the second is the better one on some dense graphs, and is not tried on others. At
+// slack 1 they are the same.
 pub fn first(rows: &[u64], near: &[u64], k: usize, f: Set, c: Set) -> Set
     requires { ⌜ Ready (masks (now rows)) (masks (now near)) (request k 0) (mask f) (mask c) ⌝ }
     ensures { λ r. ⌜ Holding (masks (now (rows .entry))) k (mask f) (mask r) ⌝ }
 {
-    let a = greedy(rows, near, k, false, f, c);
+    let a = greedy(rows, near, k, true, f, c);
     if k == 1 {
         return a;
     }
-    let b = greedy(rows, near, k, true, f, c);
+    if 3 * sets::size(a) < sets::count(rows) {
+        return a;
+    }
+    let b = greedy(rows, near, k, false, f, c);
     if sets::size(a) < sets::size(b) {
         return b;
     }

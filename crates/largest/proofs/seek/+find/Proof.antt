@@ -10,13 +10,14 @@ use borrow.Fn.PlainCycle.{Measures, is, falls, and}
 use denote.Ref.{now}
 use Rattle.sets.specs.Set as sets
 use Rattle.sets.specs.Words.{mask, masks}
-use Rattle.sets.specs.SubsetLaws.{in-of-sub, in-below, sub-below, positive-of}
+use Rattle.sets.specs.SubsetLaws.{in-of-sub, in-below, sub-below, sub-number, positive-of}
+use Rattle.sets.specs.WalkLaws.{without-less}
 use Rattle.judging.specs.Request.{request}
-use Rattle.search.specs.Ready.{Whole, Split}
+use Rattle.search.specs.Ready.{Whole}
 use Rattle.search.specs.ReadyLaws.{whole-inside, whole-between, ready-vertex, ready-joinable, ready-siftable}
-use Rattle.search.specs.ReadyLaws.{split-vertex, with-falls, without-falls, with-ready, without-ready}
 use Rattle.search.specs.SurveyLaws.{finds-plex}
-use Rattle.largest.specs.SoughtLaws.{sought-short, sought-extendable, sought-stuck, sought-leaf, sought-without, sought-branches}
+use Rattle.largest.specs.SoughtLaws.{sought-short, sought-extendable, sought-stuck, sought-leaf, without-ready, sought-without, sought-branches}
+use Rattle.largest.specs.FitLaws.{join-ready}
 use Rattle.largest.proofs.seek.find.Reads as find
 use Rattle.largest.proofs.seek.find.Kinds as find-kinds
 use Rattle.largest.proofs.seek.+find.Lts-find as find-lts
@@ -66,12 +67,12 @@ calls t = (
   pick-reads.Learnt,
   without-reads.Asked,
   without-reads.Learnt,
+  find-below t,
+  find.Post,
   beside-reads.Asked,
   beside-reads.Learnt,
   sift-reads.Asked,
   sift-reads.Learnt,
-  find-below t,
-  find.Post,
   with-reads.Asked,
   with-reads.Learnt,
   fewer-reads.Asked,
@@ -79,7 +80,7 @@ calls t = (
 )
 
 module _ (t : ℕ) where
-  -- ---- places: s and c are joined, surveyed, a vertex is picked, the candidates beside it are sifted
+  -- ---- places: s and c are joined, surveyed, a vertex is picked
 
   abbrev Joined : Type 0
   Joined = find-lts.After-join (calls t) (find-at t) find.Post
@@ -89,9 +90,6 @@ module _ (t : ℕ) where
 
   abbrev Picked : Type 0
   Picked = find-lts.After-pick (calls t) (find-at t) find.Post
-
-  abbrev Sifted : Type 0
-  Sifted = find-lts.After-sift (calls t) (find-at t) find.Post
 
   abbrev start : Joined → find-lts.Start (calls t) (find-at t) find.Post
   start c = c .before .before .before
@@ -109,20 +107,6 @@ module _ (t : ℕ) where
   -- the vertex to branch on is a candidate
   member : (c : Picked) → sets.In (c .pick .result) (mask (entry c .args .c))
   member c = in-of-sub _ _ _ (c .before .before .before .among .ensures .part) (c .pick .ensures)
-
-  abbrev picked : Sifted → Picked
-  picked c = c .before .before .before
-
-  split : (c : Sifted) → let at = entry (picked c) .args in
-      Split (masks (now (at .rows))) (masks (now (at .near))) (request (at .k) (at .q)) (mask (at .s)) (mask (at .c))
-      (picked c .pick .result) (mask (c .sift .result)) (mask (c .before .before .without .result))
-  split c =
-      record {
-        ready = entry (picked c) .pre .1 .0;
-        member = member (picked c);
-        beside = c .sift .ensures;
-        others = c .before .before .without .ensures;
-      }
 
   -- ---- the needs
 
@@ -184,49 +168,56 @@ module _ (t : ℕ) where
   without-requires : find-lts.Need-without-requires (calls t) (find-at t) find.Post
   without-requires c κs = let ready = entry c .pre .1 .0 in omega (arith, ready-vertex ready _ (member c), ready .settled .sized .most)
 
-  beside-requires : find-lts.Need-beside-requires (calls t) (find-at t) find.Post
-  beside-requires c κs = ready-joinable (entry (c .before) .pre .1 .0) _ (member (c .before))
-
-  sift-requires : find-lts.Need-sift-requires (calls t) (find-at t) find.Post
-  sift-requires c κs =
-      let at = c .before .before in
-      let ready = entry at .pre .1 .0 in
-      ready-siftable ready _ (member at) (c .beside .ensures _ refl (ready .settled .near))
-
   find-requires : find-lts.Need-find-requires (calls t) (find-at t) find.Post
   find-requires c κs =
-      let h = split c in
-      let at = entry (picked c) in
-      (omega (arith, without-falls h, at .pre .0), (without-ready h, at .pre .1 .1))
+      let at = c .before in
+      let pre = entry at .pre in
+      (omega (arith, pre .0, without-less _ _ (member at), c .without .ensures), (without-ready _ (c .without .ensures) (pre .1 .0), pre .1 .1))
 
   returns-5 : find-lts.Need-returns-5 (calls t) (find-at t) find.Post
   returns-5 c =
       let others = c .before .before in
-      sought-without (split (others .before)) (others .find .ensures)
+      sought-without _ (others .before .without .ensures) (others .find .ensures)
       (positive-of _ (eqb-false _ _ (sym (c .before .is-empty2 .ensures) ∙ not-true _ (c .if5 .taken))))
 
+  beside-requires : find-lts.Need-beside-requires (calls t) (find-at t) find.Post
+  beside-requires c κs = let at = c .before .before .before .before in ready-joinable (entry at .pre .1 .0) _ (member at)
+
+  sift-requires : find-lts.Need-sift-requires (calls t) (find-at t) find.Post
+  sift-requires c κs =
+      let at = c .before .before .before .before .before in
+      let ready = entry at .pre .1 .0 in
+      ready-siftable ready _ (member at) (c .beside .ensures _ refl (ready .settled .near))
+
   with-requires : find-lts.Need-with-requires (calls t) (find-at t) find.Post
-  with-requires c κs = let h = split (c .before .before .before) in omega (arith, split-vertex h, h .ready .settled .sized .most)
+  with-requires c κs =
+      let at = c .before .before .before .before .before .before in
+      let ready = entry at .pre .1 .0 in
+      omega (arith, ready-vertex ready _ (member at), ready .settled .sized .most)
 
   find-requires-2 : find-lts.Need-find-requires-2 (calls t) (find-at t) find.Post
   find-requires-2 c κs =
       let with = c .before in
-      let sifted = with .before .before .before .before in
-      let h = split sifted in
-      let at = entry (picked sifted) in
-      (omega (arith, with-falls h, at .pre .0), (with-ready h (with .with .ensures), at .pre .1 .1))
+      let sift = with .before in
+      let at = sift .before .before .before .before .before .before in
+      let pre = entry at .pre in (
+        omega (arith, pre .0, sub-number _ _ (sift .sift .ensures .kept .part), without-less _ _ (member at)),
+        (join-ready (pre .1 .0) (member at) (sift .sift .ensures) (with .with .ensures), pre .1 .1),
+      )
 
   returns-6 : find-lts.Need-returns-6 (calls t) (find-at t) find.Post
   returns-6 c =
       let with = c .before .before in
-      let left = with .before in
+      let sift = with .before in
+      let left = sift .before .before in
       let others = left .before .before in
-      sought-branches (split (others .before)) (others .find .ensures)
-      (eqb-true _ _ (sym (left .before .is-empty2 .ensures) ∙ not-false _ (left .if5 .left))) (with .with .ensures) (c .find2 .ensures)
+      sought-branches _ (others .before .without .ensures) (others .find .ensures)
+      (eqb-true _ _ (sym (left .before .is-empty2 .ensures) ∙ not-false _ (left .if5 .left))) (member (others .before .before)) (sift .sift .ensures)
+      (with .with .ensures) (c .find2 .ensures)
 
 pub +find-spec : {M : Type 1} → statement M
 +find-spec =
     close μ-find (λ t. find-lts.spec (calls t) (find-at t) find.Post
     (λ c κs. tt) (is-short-requires t) (λ c κs. tt) (returns t) (survey-requires t) (returns-2 t)
     (is-extendable-requires t) (λ c κs. tt) (returns-3 t) (among-requires t) (λ c κs. tt) (λ c κs. tt) (returns-4 t) (pick-requires t) (without-requires t)
-    (beside-requires t) (sift-requires t) (find-requires t) (λ c κs. tt) (returns-5 t) (with-requires t) (λ c κs. tt) (find-requires-2 t) (returns-6 t))
+    (find-requires t) (λ c κs. tt) (returns-5 t) (beside-requires t) (sift-requires t) (with-requires t) (λ c κs. tt) (find-requires-2 t) (returns-6 t))
