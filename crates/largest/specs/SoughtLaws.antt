@@ -4,7 +4,6 @@ use Prim.Native.Nat.{ℕ, _^_, _≤_, _<_}
 use native.Mathlib.Omega.{arith}
 use mathlib.Core.Path.{_≡_, ap}
 use mathlib.Core.List.{List}
-use lib.Dec.{T}
 use lib.Bits.{bitOr}
 use lib.Count.{ones-le}
 use lib.Pow.{pow-pos}
@@ -16,9 +15,9 @@ use Rattle.sets.specs.PointLaws.{bit-with, single-in, by-bit}
 use Rattle.sets.specs.SubsetLaws.{sub-trans, sub-refl, sub-with, minus-sub}
 use Rattle.judging.specs.Request.{Request}
 use Rattle.judging.specs.Graph.{missing}
-use Rattle.judging.specs.Plex.{Plex, extendable}
+use Rattle.judging.specs.Plex.{Plex}
 use Rattle.search.specs.Found.{Empty, Short}
-use Rattle.search.specs.FoundLaws.{short-empty, extendable-empty, stuck-empty, compatible-part, without-found, with-found}
+use Rattle.search.specs.FoundLaws.{short-empty, stuck-empty, compatible-part, without-found, with-found}
 use Rattle.search.specs.Trim.{Beside}
 use Rattle.search.specs.Ready.{Ready, Whole}
 use Rattle.search.specs.ReadyLaws.{whole-inside}
@@ -61,9 +60,6 @@ within-part {s = s} {d = d} c p w =
 module _ {g t : List ℕ} {ask : Request} {s c a : ℕ} (h : Whole g t ask s c a) where
   pub sought-short : {r : ℕ} → Short g (ask .slack) (ask .floor) s a → r ≡ 0 → Sought g ask s c r
   sought-short l z = sought-none z (short-empty (h .whole) l)
-
-  pub sought-extendable : {r : ℕ} → T (extendable g (ask .slack) a) → r ≡ 0 → Sought g ask s c r
-  sought-extendable l z = sought-none z (extendable-empty (h .whole) (h .ready .settled .valid) l)
 
   pub sought-stuck : {r : ℕ} (w : ℕ) → In w a → ask .slack < missing g a w → (bit c w ≡ 0) × (minus c (row g w) ≡ 0) → r ≡ 0 → Sought g ask s c r
   sought-stuck w i many o z = sought-none z (stuck-empty (h .whole) w i (o .0) many (o .1))

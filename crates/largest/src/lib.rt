@@ -58,7 +58,7 @@ fn clear(rows: &[u64], k: usize, near: &mut [u64])
 }
 
 // Fills the table for the search for more than `size` members, and gives its floor, which is 0 before and not changed again. Below 2k - 1 members a k-plex
-// may fall apart, so the reach says nothing; at slack 1 the table is not used.
+// may fall apart, so the reach says nothing; at slack 1 the table is not used. Pairs are left to the search, which sifts for the first vertices taken.
 fn refill(rows: &[u64], k: usize, floor: usize, size: usize, near: &mut [u64]) -> usize
     requires { ⌜ Settled (masks (now rows)) (masks (now near)) (request k floor) × (floor ≤ size) × (size < width) ⌝ }
     ensures { λ r. ⌜ Settled (masks (now (rows .entry))) (masks (now (near .exit))) (request k r) × (r ≤ size + 1) ⌝ }
@@ -74,7 +74,7 @@ fn refill(rows: &[u64], k: usize, floor: usize, size: usize, near: &mut [u64]) -
     }
     let target = larger(size, 2 * k - 1);
     let all = search::candidates(rows, k, target, true);
-    search::near::fill(rows, k, target, all, true, 2 * k <= target, near);
+    search::near::fill(rows, k, target, all, true, false, near);
     target
 }
 

@@ -1,4 +1,4 @@
-// The search for one k-plex of at least q members. It cuts as the list's search does, and stops at the first one.
+// The search for one k-plex of at least q members. It cuts as the list's search does, but for the extension test, and stops at the first one.
 ghost use Prim.Native.Nat.{_≤_};
 ghost use Rattle.sets.specs.Words.{mask, masks};
 ghost use Rattle.judging.specs.Request.{request};
@@ -17,13 +17,9 @@ pub fn find(rows: &[u64], near: &[u64], k: usize, q: usize, few: usize, s: Set, 
         return sets::empty();
     }
     let seen = search::survey::survey(rows, k, a);
-    let free = seen.free;
     let worst = seen.worst;
     if seen.most <= k {
         return a;
-    }
-    if search::cut::is_extendable(rows, k, true, a, free) {
-        return sets::empty();
     }
     let from = search::choice::among(rows, c, worst);
     if sets::is_empty(from) {

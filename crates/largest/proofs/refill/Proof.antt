@@ -41,4 +41,4 @@ pub refill-spec : {M : Type 1} → statement M
 refill-spec =
     tie.close
     (tie.spec (λ c. search needs) (λ c. search needs) (λ c. search needs) (λ c. search needs) (λ c. search needs) (λ c. search needs) (λ c. search needs)
-    (λ c κs. tt) candidates-requires (λ c. search needs) fill-requires (λ c. search needs) returns-4)
+    (λ c κs. tt) candidates-requires fill-requires (λ c. search needs) returns-4)

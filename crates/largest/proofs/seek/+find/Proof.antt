@@ -16,14 +16,13 @@ use Rattle.judging.specs.Request.{request}
 use Rattle.search.specs.Ready.{Whole}
 use Rattle.search.specs.ReadyLaws.{whole-inside, whole-between, ready-vertex, ready-joinable, ready-siftable}
 use Rattle.search.specs.SurveyLaws.{finds-plex}
-use Rattle.largest.specs.SoughtLaws.{sought-short, sought-extendable, sought-stuck, sought-leaf, without-ready, sought-without, sought-branches}
+use Rattle.largest.specs.SoughtLaws.{sought-short, sought-stuck, sought-leaf, without-ready, sought-without, sought-branches}
 use Rattle.largest.specs.FitLaws.{join-ready}
 use Rattle.largest.proofs.seek.find.Reads as find
 use Rattle.largest.proofs.seek.find.Kinds as find-kinds
 use Rattle.largest.proofs.seek.+find.Lts-find as find-lts
 use Rattle.search.proofs.choice.among.Reads as among-reads
 use Rattle.search.proofs.choice.pick.Reads as pick-reads
-use Rattle.search.proofs.cut.is_extendable.Reads as is-extendable-reads
 use Rattle.search.proofs.cut.is_short.Reads as is-short-reads
 use Rattle.search.proofs.survey.survey.Reads as survey-reads
 use Rattle.search.proofs.trim.beside.Reads as beside-reads
@@ -57,8 +56,6 @@ calls t = (
   empty-reads.Learnt,
   survey-reads.Asked,
   survey-reads.Learnt,
-  is-extendable-reads.Asked,
-  is-extendable-reads.Learnt,
   among-reads.Asked,
   among-reads.Learnt,
   is-empty-reads.Asked,
@@ -98,7 +95,7 @@ module _ (t : ℕ) where
   joined c = c .before .before .before
 
   abbrev entry : Picked → find-lts.Start (calls t) (find-at t) find.Post
-  entry c = start (joined (c .before .before .before .before .before .before .before .before .before))
+  entry c = start (joined (c .before .before .before .before .before .before))
 
   whole : (c : Joined) → let at = start c .args in
       Whole (masks (now (at .rows))) (masks (now (at .near))) (request (at .k) (at .q)) (mask (at .s)) (mask (at .c)) (mask (c .join .result))
@@ -123,45 +120,35 @@ module _ (t : ℕ) where
 
   returns-2 : find-lts.Need-returns-2 (calls t) (find-at t) find.Post
   returns-2 c =
-      let seen = c .before .before .before in
+      let seen = c .before .before in
       let large = seen .before .before .is-short .ensures .1 (seen .before .if1 .left) in
       sought-leaf (whole (joined seen)) (finds-plex (seen .survey .ensures) (c .if2 .taken)) large (start (joined seen) .pre .1 .1)
 
-  is-extendable-requires : find-lts.Need-is-extendable-requires (calls t) (find-at t) find.Post
-  is-extendable-requires c κs = c .before .before .before .survey .ensures .opened
+  among-requires : find-lts.Need-among-requires (calls t) (find-at t) find.Post
+  among-requires c κs =
+      let seen = c .before .before in
+      let inside = whole-inside (whole (joined seen)) in
+      record {
+        vertex = in-below _ _ _ (inside .below) (seen .survey .ensures .reached (omega (arith, c .if2 .left)) .0);
+        most = inside .most;
+      }
 
   returns-3 : find-lts.Need-returns-3 (calls t) (find-at t) find.Post
   returns-3 c =
       let cut = c .before in
-      let seen = cut .before .before .before .before .before in
-      sought-extendable (whole (joined seen)) (cut .before .is-extendable .ensures (cut .if3 .taken)) (c .empty2 .ensures)
-
-  among-requires : find-lts.Need-among-requires (calls t) (find-at t) find.Post
-  among-requires c κs =
-      let many = c .before .before in
-      let seen = many .before .before .before in
-      let inside = whole-inside (whole (joined seen)) in
-      record {
-        vertex = in-below _ _ _ (inside .below) (seen .survey .ensures .reached (omega (arith, many .if2 .left)) .0);
-        most = inside .most;
-      }
-
-  returns-4 : find-lts.Need-returns-4 (calls t) (find-at t) find.Post
-  returns-4 c =
-      let cut = c .before in
       let from = cut .before .before in
-      let many = from .before .before .before in
-      let seen = many .before .before .before in
+      let many = from .before in
+      let seen = many .before .before in
       let worst = seen .survey .ensures .reached (omega (arith, many .if2 .left)) in
       sought-stuck (whole (joined seen)) _ (worst .0) (omega (arith, worst .1, many .if2 .left))
-      (from .among .ensures .none (eqb-true _ _ (sym (cut .before .is-empty .ensures) ∙ cut .if4 .taken))) (c .empty3 .ensures)
+      (from .among .ensures .none (eqb-true _ _ (sym (cut .before .is-empty .ensures) ∙ cut .if3 .taken))) (c .empty2 .ensures)
 
   pick-requires : find-lts.Need-pick-requires (calls t) (find-at t) find.Post
   pick-requires c κs =
       let from = c .before .before in
-      let seen = from .before .before .before .before .before .before in
+      let seen = from .before .before .before in
       record {
-        some = positive-of _ (eqb-false _ _ (sym (c .before .is-empty .ensures) ∙ c .if4 .left));
+        some = positive-of _ (eqb-false _ _ (sym (c .before .is-empty .ensures) ∙ c .if3 .left));
         below = sub-below _ _ _ (from .among .ensures .part) (start (joined seen) .pre .1 .0 .fine .candidates);
       }
 
@@ -174,11 +161,11 @@ module _ (t : ℕ) where
       let pre = entry at .pre in
       (omega (arith, pre .0, without-less _ _ (member at), c .without .ensures), (without-ready _ (c .without .ensures) (pre .1 .0), pre .1 .1))
 
-  returns-5 : find-lts.Need-returns-5 (calls t) (find-at t) find.Post
-  returns-5 c =
+  returns-4 : find-lts.Need-returns-4 (calls t) (find-at t) find.Post
+  returns-4 c =
       let others = c .before .before in
       sought-without _ (others .before .without .ensures) (others .find .ensures)
-      (positive-of _ (eqb-false _ _ (sym (c .before .is-empty2 .ensures) ∙ not-true _ (c .if5 .taken))))
+      (positive-of _ (eqb-false _ _ (sym (c .before .is-empty2 .ensures) ∙ not-true _ (c .if4 .taken))))
 
   beside-requires : find-lts.Need-beside-requires (calls t) (find-at t) find.Post
   beside-requires c κs = let at = c .before .before .before .before in ready-joinable (entry at .pre .1 .0) _ (member at)
@@ -205,19 +192,19 @@ module _ (t : ℕ) where
         (join-ready (pre .1 .0) (member at) (sift .sift .ensures) (with .with .ensures), pre .1 .1),
       )
 
-  returns-6 : find-lts.Need-returns-6 (calls t) (find-at t) find.Post
-  returns-6 c =
+  returns-5 : find-lts.Need-returns-5 (calls t) (find-at t) find.Post
+  returns-5 c =
       let with = c .before .before in
       let sift = with .before in
       let left = sift .before .before in
       let others = left .before .before in
       sought-branches _ (others .before .without .ensures) (others .find .ensures)
-      (eqb-true _ _ (sym (left .before .is-empty2 .ensures) ∙ not-false _ (left .if5 .left))) (member (others .before .before)) (sift .sift .ensures)
+      (eqb-true _ _ (sym (left .before .is-empty2 .ensures) ∙ not-false _ (left .if4 .left))) (member (others .before .before)) (sift .sift .ensures)
       (with .with .ensures) (c .find2 .ensures)
 
 pub +find-spec : {M : Type 1} → statement M
 +find-spec =
     close μ-find (λ t. find-lts.spec (calls t) (find-at t) find.Post
     (λ c κs. tt) (is-short-requires t) (λ c κs. tt) (returns t) (survey-requires t) (returns-2 t)
-    (is-extendable-requires t) (λ c κs. tt) (returns-3 t) (among-requires t) (λ c κs. tt) (λ c κs. tt) (returns-4 t) (pick-requires t) (without-requires t)
-    (find-requires t) (λ c κs. tt) (returns-5 t) (beside-requires t) (sift-requires t) (with-requires t) (λ c κs. tt) (find-requires-2 t) (returns-6 t))
+    (among-requires t) (λ c κs. tt) (λ c κs. tt) (returns-3 t) (pick-requires t) (without-requires t)
+    (find-requires t) (λ c κs. tt) (returns-4 t) (beside-requires t) (sift-requires t) (with-requires t) (λ c κs. tt) (find-requires-2 t) (returns-5 t))
