@@ -12,14 +12,14 @@ use lib.ListN.{length}
 use Rattle.sets.specs.Set.{bit, In, Sub, size, with, without}
 use Rattle.sets.specs.Words.{width, Lowest}
 use Rattle.sets.specs.BitLaws.{ext, bit-le, bit-or, bit-minus}
-use Rattle.sets.specs.PointLaws.{bit-none, bit-with, in-single, single-in, single-out, by-bit, none-out}
+use Rattle.sets.specs.PointLaws.{bit-none, in-single, single-out, by-bit, none-out}
 use Rattle.sets.specs.SubsetLaws.{sub-refl, sub-trans, sub-with, minus-sub, without-same, with-below, positive}
 use Rattle.sets.specs.SizeLaws.{positive-size, size-with}
 use Rattle.sets.specs.OrderLaws.{order-highest}
 use Rattle.judging.specs.Request.{Request, request}
 use Rattle.judging.specs.PlexLaws.{small-plex}
 use Rattle.lists.specs.Listing.{Listed}
-use Rattle.search.specs.Found.{Found, Near}
+use Rattle.search.specs.Found.{Found}
 use Rattle.search.specs.FoundLaws.{without-found, with-found}
 use Rattle.search.specs.Trim.{Beside}
 use Rattle.search.specs.Ready.{Settled, Ready}

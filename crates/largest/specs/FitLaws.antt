@@ -1,19 +1,17 @@
 -- Laws of the start of the search: the candidates are narrowed by each vertex that joins, as in the search, and where a forced vertex is none of them any
 -- more, no listed plex holds all forced ones.
-use Prim.Native.Nat.{ℕ, _+_, _^_, _≤_, _<_}
+use Prim.Native.Nat.{ℕ, _^_}
 use native.Mathlib.Omega.{arith}
 use mathlib.Core.Path.{_≡_, refl, ap}
 use mathlib.Core.List.{List}
 use lib.Pow.{pow-pos}
 use lib.ListN.{length}
-use Rattle.sets.specs.Set.{bit, In, Sub, with, without}
+use Rattle.sets.specs.Set.{bit, In, with, without}
 use Rattle.sets.specs.Words.{Lowest}
 use Rattle.sets.specs.BitLaws.{ext, bit-le, bit-or, bit-minus}
 use Rattle.sets.specs.PointLaws.{bit-none, bit-with, single-in, none-out}
 use Rattle.sets.specs.SubsetLaws.{sub-trans, sub-with}
 use Rattle.judging.specs.Request.{Request}
-use Rattle.lists.specs.Listing.{Listed}
-use Rattle.search.specs.Found.{Found}
 use Rattle.search.specs.FoundLaws.{with-found}
 use Rattle.search.specs.Start.{Candidates}
 use Rattle.search.specs.StartLaws.{start-compatible}

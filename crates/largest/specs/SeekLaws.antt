@@ -9,14 +9,13 @@ use mathlib.Core.Path.{_≡_, refl, sym, ap, subst}
 use mathlib.Core.List.{List}
 use lib.Bits.{bitAnd, bitOr}
 use lib.Count.{ones-le}
-use lib.Pow.{pow-pos}
 use lib.ListN.{length}
 use Rattle.sets.specs.Set.{bit, In, Sub, size, with, without, minus}
 use Rattle.sets.specs.Graph.{row}
 use Rattle.sets.specs.Words.{width, Lowest}
 use Rattle.sets.specs.BitLaws.{ext, bit-le, bit-and, bit-or, bit-minus}
 use Rattle.sets.specs.PointLaws.{bit-with, in-single, single-in, single-out, by-bit, none-out, parts-whole}
-use Rattle.sets.specs.SubsetLaws.{sub-refl, sub-trans, sub-below, sub-number, sub-with, in-of-sub, in-below, with-same, without-same, with-below}
+use Rattle.sets.specs.SubsetLaws.{sub-refl, sub-number, in-of-sub, in-below, with-same, without-same, with-below}
 use Rattle.sets.specs.SizeLaws.{size-mono, size-or, size-with}
 use Rattle.sets.specs.WalkLaws.{without-less}
 use Rattle.judging.specs.Request.{Request, request}
@@ -27,7 +26,7 @@ use Rattle.search.specs.FoundLaws.{compatible-part, empty-part, with-found, wit
 use Rattle.search.specs.Trim.{Blocked, Cheap, Beside}
 use Rattle.search.specs.TrimLaws.{kept-near, trimmed-compatible}
 use Rattle.search.specs.CliqueLaws.{clique-adjacent, clique-near}
-use Rattle.largest.specs.Sought.{Within, Sought, Seeking}
+use Rattle.largest.specs.Sought.{Sought, Seeking}
 use Rattle.largest.specs.SoughtLaws.{sought-some, sought-none, within-with}
 use Rattle.largest.specs.Colour.{Coloured}
 

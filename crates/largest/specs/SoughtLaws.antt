@@ -7,10 +7,9 @@ use mathlib.Core.List.{List}
 use lib.Bits.{bitOr}
 use lib.Count.{ones-le}
 use lib.Pow.{pow-pos}
-use lib.ListN.{length}
 use Rattle.sets.specs.Set.{bit, In, Sub, size, with, without, minus}
 use Rattle.sets.specs.Graph.{row}
-use Rattle.sets.specs.BitLaws.{bit-or, bit-minus}
+use Rattle.sets.specs.BitLaws.{bit-or}
 use Rattle.sets.specs.PointLaws.{bit-with, single-in, by-bit}
 use Rattle.sets.specs.SubsetLaws.{sub-trans, sub-refl, sub-with, minus-sub}
 use Rattle.judging.specs.Request.{Request}

@@ -20,7 +20,9 @@ fill-requires c κs =
     (pre .1, start-pairing (pre .0) (all-candidates (all .full .ensures ∙ ap full (all .before .count .ensures))), (λ e. absurd (true-is-not-false (sym e))))
 
 returns : tie.Need-returns
-returns c = let pre = c .before .before .before .before .before .before .before .before .pre in filled-settled (pre .0) (pre .1 .room) (c .before .before .fill .ensures)
+returns c =
+    let pre = c .before .before .before .before .before .before .before .before .pre in
+    filled-settled (pre .0) (pre .1 .room) (c .before .before .fill .ensures)
 
 pub clear-spec : {M : Type 1} → statement M
 clear-spec = tie.close (tie.spec (λ c κs. tt) full-requires fill-requires (λ c. search needs) returns)

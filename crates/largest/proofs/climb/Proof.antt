@@ -1,12 +1,12 @@
 -- The best so far holds f at every turn, and the table serves its size; where no larger one is held, none is larger, and the lowest of the size is sought.
-use Prim.Native.Nat.{ℕ, _+_, _-_, _≤_}
+use Prim.Native.Nat.{_+_, _-_, _≤_}
 use native.Mathlib.Omega.{arith}
-use mathlib.Core.Path.{_≡_, refl, sym, ap, _∙_}
+use mathlib.Core.Path.{_≡_, refl, _∙_}
 use lib.ListN.{length}
 use denote.Ref.{now}
 use borrow.Author.Needs.{needs}
 use Rattle.sets.specs.Set as Set
-use Rattle.sets.specs.Set.{size, full}
+use Rattle.sets.specs.Set.{size}
 use Rattle.sets.specs.Words.{width, mask, masks}
 use Rattle.sets.specs.WalkLaws.{empty-holds, empty-fails}
 use Rattle.judging.specs.Request.{request}
@@ -18,7 +18,8 @@ use Rattle.largest.proofs.climb.Tie as tie
 
 abbrev Inv-loop : tie.InvT-loop
 Inv-loop rows k f near₀ n best₀ floor₀ near best floor =
-    Holding (masks rows) k (mask f) (mask best) × Settled (masks rows) (masks near) (request k floor) × (floor ≤ size (mask best)) × (length near ≡ length near₀)
+    Holding (masks rows) k (mask f) (mask best) × Settled (masks rows) (masks near) (request k floor) × (floor ≤ size (mask best))
+    × (length near ≡ length near₀)
 
 abbrev μ-loop : tie.MeasureT-loop
 μ-loop rows k f near₀ n best₀ floor₀ near best floor = n - size (mask best)

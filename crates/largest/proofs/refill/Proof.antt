@@ -15,8 +15,8 @@ searchable : (c : tie.After-larger) → let at = c .before .before .before .befo
     Searchable (masks (now (at .args .rows))) (request (at .args .k) (c .larger .result))
 searchable c =
     let start = c .before .before .before .before .before .before in
-    settled-searchable (settled-higher (omega (arith, start .pre .1, c .larger .ensures)) (omega (arith, start .pre .2, c .before .if3 .left, c .larger .ensures))
-    (start .pre .0))
+    settled-searchable (settled-higher (omega (arith, start .pre .1, c .larger .ensures))
+    (omega (arith, start .pre .2, c .before .if3 .left, c .larger .ensures)) (start .pre .0))
 
 candidates-requires : tie.Need-candidates-requires
 candidates-requires c κs = searchable c

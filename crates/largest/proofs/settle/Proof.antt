@@ -1,7 +1,6 @@
 -- A table that is filled for no more than `size` serves it, and one that drops nothing does.
 use native.Mathlib.Omega.{arith}
 use borrow.Author.Needs.{needs}
-use Rattle.search.specs.StartLaws.{settled-searchable}
 use Rattle.largest.specs.ClimbLaws.{settled-higher}
 use Rattle.largest.proofs.settle.Statement.{statement}
 use Rattle.largest.proofs.settle.Tie as tie
@@ -14,7 +13,9 @@ clear-requires c κs =
     )
 
 returns : tie.Need-returns
-returns c = let start = c .before .before .before .before .before .before .before in settled-higher (omega arith) (start .pre .1) (c .before .before .clear .ensures)
+returns c =
+    let start = c .before .before .before .before .before .before .before in
+    settled-higher (omega arith) (start .pre .1) (c .before .before .clear .ensures)
 
 returns-2 : tie.Need-returns-2
 returns-2 c = let pre = c .before .before .before .pre in settled-higher (omega (arith, c .if1 .left)) (pre .1) (pre .0)

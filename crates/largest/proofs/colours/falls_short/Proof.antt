@@ -1,9 +1,8 @@
 -- A k-plex has at most as many of the classes so far as were counted; once nothing is left, these are all of c.
-use Prim.Native.Nat.{ℕ, _-_, _+_, _≤_, min}
+use Prim.Native.Nat.{ℕ, _+_, min}
 use native.Mathlib.Omega.{arith}
-use mathlib.Core.Path.{_≡_, refl, sym, ap, subst}
+use mathlib.Core.Path.{_≡_, refl, sym}
 use mathlib.Core.Bool.{false≢true}
-use borrow.Author.Needs.{needs}
 use borrow.Author.Tests.{ltb-true}
 use Rattle.sets.specs.Set.{size, minus}
 use Rattle.sets.specs.Words.{mask, masks}

@@ -2,7 +2,6 @@
 use native.Mathlib.Omega.{arith}
 use mathlib.Core.Path.{refl, sym, _∙_}
 use borrow.Author.Tests.{not-true, not-false}
-use denote.Ref.{now}
 use Rattle.sets.specs.Set.{In}
 use Rattle.sets.specs.Words.{mask, masks}
 use Rattle.sets.specs.PointLaws.{by-bit}
@@ -78,5 +77,5 @@ returns-2 c = joining-all (c .before .before .loop .inv) (walk-over (c .before .
 pub fit-spec : {M : Type 1} → statement M
 fit-spec =
     tie.close
-    (tie.spec Inv-loop μ-loop (λ c. omega (arith, c .before .before .pre .0 .slack .0)) (λ c κs. tt) loop-holds (λ c κs. tt) lowest-requires (λ c κs. c .lowest .ensures .fits) (λ c κs. tt) returns
-    rest-requires beside-requires sift-requires with-requires loop-less loop-again returns-2)
+    (tie.spec Inv-loop μ-loop (λ c. omega (arith, c .before .before .pre .0 .slack .0)) (λ c κs. tt) loop-holds (λ c κs. tt) lowest-requires
+    (λ c κs. c .lowest .ensures .fits) (λ c κs. tt) returns rest-requires beside-requires sift-requires with-requires loop-less loop-again returns-2)
