@@ -1,8 +1,8 @@
 -- Laws of colour classes: a class is chosen vertex by vertex, the neighbours of each left out; a member of a k-plex misses what this has of a class, so it
--- has at most k of it, and of classes one after the other their sum.
+-- has at most k of it. A member of s takes off in the same way what it misses. Of parts one after the other a k-plex has at most the sum.
 --
---   Choosing g c left r        r are chosen of c, left are still to be looked at, and no vertex of r is adjacent to one of r or left
---   Colouring g k c n left r   a k-plex has at most n of r, which with left is c
+--   Choosing g c left r      r are chosen of c, left are still to be looked at, and no vertex of r is adjacent to one of r or left
+--   Colouring g c n left r   a clique has at most n of r, and r and left are vertices of c
 use Prim.Native.Nat.{ℕ, _+_, _-_, _^_, _≤_, _<_, min, max}
 use native.Mathlib.Omega.{arith}
 use native.Mathlib.Decide.{decLe}
@@ -16,14 +16,14 @@ use Rattle.sets.specs.Set.{bit, In, Sub, size, with, without, minus}
 use Rattle.sets.specs.Graph.{row}
 use Rattle.sets.specs.Words.{Lowest}
 use Rattle.sets.specs.BitLaws.{ext, bit-le, bit-and, bit-or, bit-minus}
-use Rattle.sets.specs.PointLaws.{bit-none, bit-with, in-single, single-in, single-out, by-bit, none-out}
-use Rattle.sets.specs.SubsetLaws.{sub-refl, sub-trans, sub-below, sub-number, in-below, with-same, minus-sub, positive-of}
-use Rattle.sets.specs.SizeLaws.{size-mono, size-or, size-minus, some-member, positive-size}
+use Rattle.sets.specs.PointLaws.{bit-none, bit-with, in-single, single-in, single-out, by-bit, none-out, minus-self}
+use Rattle.sets.specs.SubsetLaws.{sub-refl, sub-trans, sub-below, sub-number, in-of-sub, in-below, with-same, minus-none, minus-sub, positive-of}
+use Rattle.sets.specs.SizeLaws.{size-pair, size-mono, size-or, size-minus, some-member, positive-size}
 use Rattle.sets.specs.WalkLaws.{walk-falls}
 use Rattle.judging.specs.Graph.{missing}
 use Rattle.judging.specs.Plex.{Plex}
 use Rattle.judging.specs.Setting.{Judgeable}
-use Rattle.largest.specs.Colour.{Class, Coloured}
+use Rattle.largest.specs.Colour.{Class, Coloured, Sharing, Shared}
 
 -- ---- one class
 
@@ -48,10 +48,10 @@ choosing-all {c = c} {left = left} {r = r} z k =
       some = λ e. sym (k .some e) ∙ z;
     }
 
--- a member of a k-plex misses what it has of the class
-pub class-coloured : {g : List ℕ} {c r : ℕ} → Class g c r → (k : ℕ) → Coloured g k c k r
+-- a member of a k-plex misses what this has of the class
+pub class-coloured : {g : List ℕ} {c r : ℕ} → Class g c r → (k s : ℕ) → Coloured g k s c k r
 unfolding missing
-class-coloured {g} {c} {r} h k = record { part = h .part; most = λ t b p. go t b p (decLe (size (bitAnd t r)) 0) }
+class-coloured {g} {c} {r} h k s = record { part = h .part; most = λ t b p o. go t b p (decLe (size (bitAnd t r)) 0) }
   where
     go : (t : ℕ) → t < 2 ^ length g → Plex g k t → Dec (size (bitAnd t r) ≤ 0) → size (bitAnd t r) ≤ k
     go t b p (yes none) = omega arith
@@ -67,12 +67,30 @@ class-coloured {g} {c} {r} h k = record { part = h .part; most = λ t b p. go t 
               omega (arith, bit-and t r v, bit-minus t (row g u) v, h .apart u chosen v, bit-le t v)),
         )
 
--- and of fewer than k no more than there are
-pub class-least : {g : List ℕ} {c r : ℕ} → Class g c r → (k : ℕ) → Coloured g k c (min (size r) k) r
-class-least {r = r} h k =
+-- a member u of s misses of a k-plex that holds s what it misses of s, and what that has of the candidates m which u misses
+pub member-coloured : {g : List ℕ} {k s c m : ℕ} (u : ℕ) → s < 2 ^ length g → ((v : ℕ) → In v c → bit s v ≡ 0) → In u s → m ≡ minus c (row g u)
+    → Coloured g k s c (k - missing g s u) m
+unfolding missing
+member-coloured {g} {k} {s} {c} {m} u b apart i e =
+    rw e (record {
+      part = minus-sub c (row g u);
+      most = λ t l p o.
+          let inside : In u t = in-of-sub s t u o i in
+          omega (arith, p u (in-below (length g) t u l inside) inside, two t o, ones-le 0 0 (pow-pos 0));
+    })
+  where
+    two : (t : ℕ) → Sub s t → size (minus s (row g u)) + size (bitAnd t (minus c (row g u))) ≤ size (minus t (row g u)) + size 0
+    two t o =
+        size-pair (minus s (row g u)) (bitAnd t (minus c (row g u))) (minus t (row g u)) 0 (λ v. by-bit c v
+        (λ j. omega (arith, apart v j, bit-minus s (row g u) v, bit-and t (minus c (row g u)) v, bit-minus c (row g u) v, bit-minus t (row g u) v, bit-le c v))
+        (λ n. omega (arith, o v, bit-minus s (row g u) v, bit-and t (minus c (row g u)) v, bit-minus c (row g u) v, bit-minus t (row g u) v)))
+
+-- and there are no more of them than there are
+pub coloured-least : {g : List ℕ} {k s c n r : ℕ} → Coloured g k s c n r → Coloured g k s c (min (size r) n) r
+coloured-least {r = r} h =
     record {
       part = h .part;
-      most = λ t b p. omega (arith, class-coloured h k .most t b p, size-mono (bitAnd t r) r (λ u. omega (arith, bit-and t r u)));
+      most = λ t b p o. omega (arith, h .most t b p o, size-mono (bitAnd t r) r (λ u. omega (arith, bit-and t r u)));
     }
 
 module _ {g : List ℕ} {c left r : ℕ} (h : Judgeable g c) (k : Choosing g c left r) where
@@ -109,80 +127,110 @@ module _ {g : List ℕ} {c left r : ℕ} (h : Judgeable g c) (k : Choosing g c l
 pub choosing-falls : {left v rest left2 : ℕ} (w : ℕ) → Lowest left v → rest ≡ without left v → left2 ≡ minus rest w → left2 < left
 choosing-falls {rest = rest} w low er el = omega (arith, sub-number (minus rest w) rest (minus-sub rest w), walk-falls low er, el)
 
--- ---- one class after the other
+-- ---- one part after the other
 
-pub coloured-size : (g : List ℕ) (k c : ℕ) → Coloured g k c (size c) c
-coloured-size g k c = record { part = sub-refl c; most = λ t b p. size-mono (bitAnd t c) c (λ u. omega (arith, bit-and t c u)) }
+pub coloured-size : (g : List ℕ) (k s c : ℕ) → Coloured g k s c (size c) c
+coloured-size g k s c = record { part = sub-refl c; most = λ t b p o. size-mono (bitAnd t c) c (λ u. omega (arith, bit-and t c u)) }
 
-pub record Colouring (g : List ℕ) (k c n left r : ℕ) : Type 0 where
-  pub coloured : Coloured g k c n r
-  pub part : Sub left c
-  pub whole : (u : ℕ) → bit c u ≤ bit r u + bit left u
+-- what a k-plex has of two parts
+shared : (t r m : ℕ) → size (bitAnd t (bitOr r m)) ≤ size (bitAnd t r) + size (bitAnd t m)
+shared t r m =
+    omega (
+      arith,
+      size-or (bitAnd t r) (bitAnd t m),
+      size-mono (bitAnd t (bitOr r m)) (bitOr (bitAnd t r) (bitAnd t m)) (λ u.
+          omega (arith, bit-and t (bitOr r m) u, bit-or r m u, bit-or (bitAnd t r) (bitAnd t m) u, bit-and t r u, bit-and t m u)),
+    )
 
-pub colouring-none : {g : List ℕ} {k c r : ℕ} → r ≡ 0 → Colouring g k c 0 c r
-colouring-none {g} {k} {c} {r} z =
+pub coloured-none : {g : List ℕ} {k s c r : ℕ} → r ≡ 0 → Coloured g k s c 0 r
+coloured-none {g} {k} {s} {c} {r} z =
     rw z (record {
-      coloured = record { part = λ u. omega (arith, bit-none u); most = λ t b p. omega (arith, coloured-size g k 0 .most t b p, ones-le 0 0 (pow-pos 0)) };
-      part = sub-refl c;
-      whole = λ u. omega arith;
+      part = λ u. omega (arith, bit-none u);
+      most = λ t b p o. omega (arith, coloured-size g k s 0 .most t b p o, ones-le 0 0 (pow-pos 0));
     })
 
-module _ {g : List ℕ} {k c n left r : ℕ} (h : Colouring g k c n left r) where
-  pub colouring-judgeable : Judgeable g c → Judgeable g left
-  colouring-judgeable ok =
-      record {
-        inside = record { some = ok .inside .some; most = ok .inside .most; below = sub-below (length g) left c (h .part) (ok .inside .below) };
-        valid = ok .valid;
-      }
+pub coloured-more : {g : List ℕ} {k s c n i left r m p : ℕ} → Coloured g k s c n r → Sub left c → Coloured g k s left i m → p ≡ bitOr r m
+    → Coloured g k s c (n + i) p
+coloured-more {r = r} {m = m} h l d e =
+    rw e (record {
+      part = λ u. omega (arith, bit-or r m u, h .part u, d .part u, l u);
+      most = λ t b p o. omega (arith, h .most t b p o, d .most t b p o, shared t r m);
+    })
 
-  pub colouring-next : {m i r2 left2 : ℕ} → Coloured g k left i m → r2 ≡ bitOr r m → left2 ≡ minus left m → Colouring g k c (n + i) left2 r2
-  colouring-next {m} d er el =
-      rw (er, el) (record {
-        coloured = record {
-          part = λ u. omega (arith, bit-or r m u, h .coloured .part u, d .part u, h .part u);
-          most = λ t b p. omega (arith, h .coloured .most t b p, d .most t b p, shared t);
-        };
-        part = sub-trans (minus left m) left c (minus-sub left m) (h .part);
-        whole = λ u. omega (arith, h .whole u, bit-or r m u, bit-minus left m u, bit-le c u);
-      })
-    where
-      shared : (t : ℕ) → size (bitAnd t (bitOr r m)) ≤ size (bitAnd t r) + size (bitAnd t m)
-      shared t =
-          omega (
-            arith,
-            size-or (bitAnd t r) (bitAnd t m),
-            size-mono (bitAnd t (bitOr r m)) (bitOr (bitAnd t r) (bitAnd t m)) (λ u.
-                omega (arith, bit-and t (bitOr r m) u, bit-or r m u, bit-or (bitAnd t r) (bitAnd t m) u, bit-and t r u, bit-and t m u)),
-          )
+pub part-judgeable : {g : List ℕ} {c : ℕ} (left : ℕ) → Sub left c → Judgeable g c → Judgeable g left
+part-judgeable {g} {c} left l ok =
+    record {
+      inside = record { some = ok .inside .some; most = ok .inside .most; below = sub-below (length g) left c l (ok .inside .below) };
+      valid = ok .valid;
+    }
 
-  -- the next class, where r is what is not left
-  pub colouring-rest : {m i left2 : ℕ} → r ≡ minus c left → Coloured g k left i m → left2 ≡ minus left m → Colouring g k c (n + i) left2 (minus c left2)
-  colouring-rest {m} {i} {left2} e d el =
-      colouring-next d (ext (minus c left2) (bitOr r m) (λ u. omega (
-        arith,
-        bit-minus c left2 u,
-        ap (λ (x : ℕ). bit x u) el,
-        bit-minus left m u,
-        bit-or r m u,
-        ap (λ (x : ℕ). bit x u) e,
-        bit-minus c left u,
-        d .part u,
-        h .part u,
-        bit-le c u,
-      ))) el
-
-  -- in fewer classes than are allowed
-  pub colouring-some : {m : ℕ} → n ≤ m → Coloured g k c m r
-  colouring-some l = record { part = h .coloured .part; most = λ t b p. omega (arith, h .coloured .most t b p) }
-
-  -- in all of them
-  pub colouring-all : left ≡ 0 → Coloured g k c n c
-  colouring-all z =
-      let same : r ≡ c = ext r c (λ u. omega (arith, h .coloured .part u, h .whole u, none-out z u)) in
-      subst (λ (x : ℕ). Coloured g k c n x) same (h .coloured)
+pub sharing-judgeable : {g : List ℕ} {k q s c : ℕ} → Sharing g k q s c → Judgeable g c
+sharing-judgeable h =
+    record { inside = record { some = h .sized .some; most = h .sized .most; below = h .fine .candidates }; valid = h .valid }
 
 -- what is left falls, since a class has some
 pub class-falls : {g : List ℕ} {c r left2 : ℕ} → Class g c r → 0 < c → left2 ≡ minus c r → size left2 < size c
 class-falls {c = c} {r = r} h l e =
     let some = positive-size r (positive-of r (λ z. omega (arith, l, h .some z))) in
     rw e (omega (arith, size-minus c r, some, size-mono r (bitAnd c r) (λ u. omega (arith, bit-and c r u, h .part u))))
+
+-- ---- classes that are counted, at slack 1
+
+pub record Colouring (g : List ℕ) (c n left r : ℕ) : Type 0 where
+  pub coloured : Coloured g 1 0 c n r
+  pub part : Sub left c
+
+pub colouring-none : {g : List ℕ} {c r : ℕ} → r ≡ 0 → Colouring g c 0 c r
+colouring-none {c = c} z = record { coloured = coloured-none z; part = sub-refl c }
+
+module _ {g : List ℕ} {c n left r : ℕ} (h : Colouring g c n left r) where
+  pub colouring-next : {m r2 left2 : ℕ} → Class g left m → r2 ≡ bitOr r m → left2 ≡ minus left m → Colouring g c (n + 1) left2 r2
+  colouring-next {m} d er el =
+      record {
+        coloured = coloured-more (h .coloured) (h .part) (class-coloured d 1 0) er;
+        part = rw el (sub-trans (minus left m) left c (minus-sub left m) (h .part));
+      }
+
+  -- in fewer classes than are allowed
+  pub colouring-some : {m : ℕ} → n ≤ m → Coloured g 1 0 c m r
+  colouring-some l = record { part = h .coloured .part; most = λ t b p o. omega (arith, h .coloured .most t b p o) }
+
+-- ---- what a k-plex that holds s has of c
+
+pub shared-none : {g : List ℕ} {k s c : ℕ} → Shared g k s c 0 c
+shared-none {c = c} = record { coloured = coloured-none (sym (minus-self c)); part = sub-refl c }
+
+module _ {g : List ℕ} {k s c n left : ℕ} (h : Shared g k s c n left) where
+  -- one part more, of which it has at most i
+  pub shared-next : {m i left2 : ℕ} → Coloured g k s left i m → left2 ≡ minus left m → Shared g k s c (n + i) left2
+  shared-next {m} {i} {left2} d e =
+      record {
+        coloured = coloured-more (h .coloured) (h .part) d (ext (minus c left2) (bitOr (minus c left) m) (λ u. omega (
+          arith,
+          bit-minus c left2 u,
+          ap (λ (x : ℕ). bit x u) e,
+          bit-minus left m u,
+          bit-or (minus c left) m u,
+          bit-minus c left u,
+          d .part u,
+          h .part u,
+          bit-le c u,
+        )));
+        part = rw e (sub-trans (minus left m) left c (minus-sub left m) (h .part));
+      }
+
+  -- all that was left is the last part
+  pub shared-rest : {i : ℕ} → Coloured g k s left i left → Coloured g k s c (n + i) c
+  shared-rest d =
+      coloured-more (h .coloured) (h .part) d
+      (ext c (bitOr (minus c left) left) (λ u. omega (arith, bit-or (minus c left) left u, bit-minus c left u, h .part u, bit-le c u)))
+
+  -- nothing is left
+  pub shared-all : left ≡ 0 → Coloured g k s c n c
+  shared-all z =
+      let same : minus c left ≡ c = ap (minus c) z ∙ minus-none c in
+      subst (λ (x : ℕ). Coloured g k s c n x) same (h .coloured)
+
+-- what holds of every k-plex holds of those with s
+pub coloured-any : {g : List ℕ} {k c n r : ℕ} → Coloured g k 0 c n r → (s : ℕ) → Coloured g k s c n r
+coloured-any h s = record { part = h .part; most = λ t b p o. h .most t b p (λ u. omega (arith, bit-none u)) }

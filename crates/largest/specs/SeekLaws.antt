@@ -14,8 +14,8 @@ use Rattle.sets.specs.Set.{bit, In, Sub, size, with, without, minus}
 use Rattle.sets.specs.Graph.{row}
 use Rattle.sets.specs.Words.{width, Lowest}
 use Rattle.sets.specs.BitLaws.{ext, bit-le, bit-and, bit-or, bit-minus}
-use Rattle.sets.specs.PointLaws.{bit-with, in-single, single-in, single-out, by-bit, none-out, parts-whole}
-use Rattle.sets.specs.SubsetLaws.{sub-refl, sub-number, in-of-sub, in-below, with-same, without-same, with-below}
+use Rattle.sets.specs.PointLaws.{bit-none, bit-with, in-single, single-in, single-out, by-bit, none-out, parts-whole}
+use Rattle.sets.specs.SubsetLaws.{sub-trans, sub-refl, sub-number, in-of-sub, in-below, with-same, without-same, with-below}
 use Rattle.sets.specs.SizeLaws.{size-mono, size-or, size-with}
 use Rattle.sets.specs.WalkLaws.{without-less}
 use Rattle.judging.specs.Request.{Request, request}
@@ -60,10 +60,10 @@ ready-seeking {g} {t} {k} {q} {have} {s} {c} one h l e =
 -- ---- colour classes
 
 -- a listed plex in s and b has the members of s and at most n others
-pub coloured-empty : {g : List ℕ} {ask : Request} {have s c n b : ℕ} → have ≡ size s → Coloured g (ask .slack) c n b → have + n < ask .floor
-    → Empty g ask s b
-coloured-empty {s = s} {b = b} e k l x f =
-    let few = k .most x (f .listed .below) (f .listed .top .0) in
+pub coloured-empty : {g : List ℕ} {ask : Request} {have s c n b : ℕ} (p : ℕ) → Sub p s → have ≡ size s → Coloured g (ask .slack) p c n b
+    → have + n < ask .floor → Empty g ask s b
+coloured-empty {s = s} {b = b} p o e k l x f =
+    let few = k .most x (f .listed .below) (f .listed .top .0) (sub-trans p s x o (f .lower)) in
     let whole = size-mono x (bitOr s (bitAnd x b)) (λ u. omega (arith, f .upper u, bit-or s b u, bit-or s (bitAnd x b) u, bit-and x b u)) in
     omega (arith, l, few, whole, size-or s (bitAnd x b), e, f .listed .large)
 
@@ -149,14 +149,14 @@ pub record Sweeping (g : List ℕ) (ask : Request) (have s b t : ℕ) : Type 0 w
   pub none : Empty g ask s b
 
 -- of the candidates c those in n colour classes are too few, and the others are to be tried
-module _ {g : List ℕ} {k c n b t : ℕ} (d : Coloured g k c n b) (e : t ≡ minus c b) where
+module _ {g : List ℕ} {k p c n b t : ℕ} (d : Coloured g k p c n b) (e : t ≡ minus c b) where
   pub coloured-candidates : bitOr t b ≡ c
   coloured-candidates = rw e (parts-whole c b (d .part))
 
-pub coloured-sweeping : {g : List ℕ} {ask : Request} {have s c n b t : ℕ} → Coloured g 1 c n b → t ≡ minus c b → Seeking g ask have s c
+pub coloured-sweeping : {g : List ℕ} {ask : Request} {have s c n b t : ℕ} → Coloured g 1 0 c n b → t ≡ minus c b → Seeking g ask have s c
     → have + n < ask .floor → Sweeping g ask have s b t
 coloured-sweeping {c = c} d e h l =
-    record { seeking = rw (coloured-candidates d e) h; none = coloured-empty {c = c} (h .counted) (rw (h .slack) d) l }
+    record { seeking = rw (coloured-candidates d e) h; none = coloured-empty {c = c} 0 (λ u. omega (arith, bit-none u)) (h .counted) (rw (h .slack) d) l }
 
 pub record Step (g : List ℕ) (s b t v j d b2 t2 : ℕ) : Type 0 where
   pub member : In v t

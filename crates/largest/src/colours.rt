@@ -2,9 +2,10 @@
 ghost use mathlib.Core.Path.{_≡_};
 ghost use mathlib.Core.Bool.{true};
 ghost use Prim.Native.Nat.{ℕ, _+_, _<_, _≤_, min};
+ghost use Rattle.sets.specs.Set.{size};
 ghost use Rattle.sets.specs.Words.{width, mask, masks};
 ghost use Rattle.judging.specs.Setting.{Judgeable};
-ghost use Rattle.largest.specs.Colour.{Class, Coloured};
+ghost use Rattle.largest.specs.Colour.{Class, Coloured, Sharing, Shared};
 use sets::Set;
 
 // A colour class: members of `from`, taken one after the other, that are not adjacent to those before. A k-plex has at most k of them.
@@ -25,7 +26,7 @@ fn class(rows: &[u64], from: Set) -> Set
 // The members of c in `count` colour classes, or in fewer where these have all of c. A clique has at most `count` of them.
 pub(crate) fn colour(rows: &[u64], c: Set, count: usize) -> Set
     requires { ⌜ Judgeable (masks (now rows)) (mask c) ⌝ }
-    ensures { λ r. ⌜ Coloured (masks (now (rows .entry))) 1 (mask c) count (mask r) ⌝ }
+    ensures { λ r. ⌜ Coloured (masks (now (rows .entry))) 1 0 (mask c) count (mask r) ⌝ }
 {
     let mut base = sets::empty();
     let mut left = c;
@@ -52,10 +53,38 @@ fn smaller(a: usize, b: usize) -> usize
     b
 }
 
-// Has every k-plex with `have` members outside c, and the others in c, fewer than q: since it has at most k of each colour class? Only true is a promise.
-pub(crate) fn falls_short(rows: &[u64], k: usize, q: usize, have: usize, c: Set) -> bool
+// How many vertices a k-plex can have of a set and of the candidates that are not left.
+struct Count {
+    pub most: usize,
+    pub left: Set,
+}
+
+// What the members of s allow: each has its part of the candidates, those that it misses and none before it does, and a k-plex that holds s has no more
+// of them than that member may still miss.
+fn by_members(rows: &[u64], k: usize, q: usize, s: Set, c: Set) -> Count
+    requires { ⌜ Sharing (masks (now rows)) k q (mask s) (mask c) ⌝ }
+    ensures { λ r. ⌜ ((n : ℕ) × Shared (masks (now (rows .entry))) k (mask s) (mask c) n (mask (r .left)) × (r .most ≡ size (mask s) + n)) ⌝ }
+{
+    let mut most = sets::size(s);
+    let mut left = c;
+    let mut todo = s;
+    while !sets::is_empty(todo) {
+        if q <= most {
+            break;
+        }
+        let u = sets::lowest(todo);
+        todo = sets::rest(todo, u);
+        let part = sets::minus(left, sets::get(rows, u));
+        most = most + smaller(sets::size(part), k - judging::plex::missing(rows, s, u));
+        left = sets::minus(left, part);
+    }
+    Count { most, left }
+}
+
+// Has every k-plex with `have` members outside c, and the others in c, fewer than q: by colour classes? Only true is a promise.
+fn by_classes(rows: &[u64], k: usize, q: usize, have: usize, c: Set) -> bool
     requires { ⌜ Judgeable (masks (now rows)) (mask c) × (q ≤ width) ⌝ }
-    ensures { λ r. ⌜ (r ≡ true → (n : ℕ) × Coloured (masks (now (rows .entry))) k (mask c) n (mask c) × (have + n < q)) ⌝ }
+    ensures { λ r. ⌜ (r ≡ true → (n : ℕ) × Coloured (masks (now (rows .entry))) k 0 (mask c) n (mask c) × (have + n < q)) ⌝ }
 {
     let mut most = have;
     let mut left = c;
@@ -68,4 +97,13 @@ pub(crate) fn falls_short(rows: &[u64], k: usize, q: usize, have: usize, c: Set)
         left = sets::minus(left, next);
     }
     most < q
+}
+
+// Has every k-plex between s and s with c fewer than q members: by the members of s, and then by colour classes? Only true is a promise.
+pub(crate) fn falls_short(rows: &[u64], k: usize, q: usize, s: Set, c: Set) -> bool
+    requires { ⌜ Sharing (masks (now rows)) k q (mask s) (mask c) ⌝ }
+    ensures { λ r. ⌜ (r ≡ true → (n : ℕ) × Coloured (masks (now (rows .entry))) k (mask s) (mask c) n (mask c) × (size (mask s) + n < q)) ⌝ }
+{
+    let count = by_members(rows, k, q, s, c);
+    by_classes(rows, k, q, count.most, count.left)
 }

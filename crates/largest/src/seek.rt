@@ -44,7 +44,7 @@ pub fn one(rows: &[u64], near: &[u64], k: usize, q: usize, s: Set, c: Set) -> Se
     if k == 1 {
         return crate::cliques::clique(rows, q, sets::size(s), s, c);
     }
-    if crate::colours::falls_short(rows, k, q, sets::size(s), c) {
+    if crate::colours::falls_short(rows, k, q, s, c) {
         return sets::empty();
     }
     find(rows, near, k, q, 3, s, c)

@@ -9,6 +9,7 @@ use denote.Ref.{now}
 use lib.Bits.{bitOr}
 use Rattle.judging.specs.Request.{request}
 use Rattle.sets.specs.Words.{mask, masks}
+use Rattle.sets.specs.PointLaws.{bit-none}
 use Rattle.sets.specs.WalkLaws.{walk-falls, walk-goes-on, walk-over}
 use Rattle.largest.specs.ColourLaws.{coloured-size}
 use Rattle.largest.specs.SoughtLaws.{sought-none}
@@ -107,7 +108,7 @@ module _ (t : ℕ) where
   clique-returns-2 c =
       let sized = c .before .before in
       sought-none (c .empty .ensures)
-      (coloured-empty (start sized .pre .1 .counted) (coloured-size _ _ _) (omega (arith, c .before .if2 .taken, sized .size .ensures .0)))
+      (coloured-empty 0 (λ u. omega (arith, bit-none u)) (start sized .pre .1 .counted) (coloured-size _ _ _ _) (omega (arith, c .before .if2 .taken, sized .size .ensures .0)))
 
   clique-colour-requires : clique-lts.Need-colour-requires (clique-calls t) (clique-at t) clique.Post
   clique-colour-requires c κs = seek-judgeable (start (c .before) .pre .1)

@@ -2,12 +2,12 @@
 use Prim.Native.Nat.{_-_, _≤_}
 use borrow.Author.Needs.{needs}
 use Rattle.sets.specs.Words.{mask, masks}
-use Rattle.largest.specs.ColourLaws.{Colouring, colouring-none, colouring-judgeable, class-coloured, colouring-next, colouring-some}
+use Rattle.largest.specs.ColourLaws.{Colouring, colouring-none, part-judgeable, colouring-next, colouring-some}
 use Rattle.largest.proofs.colours.colour.Statement.{statement}
 use Rattle.largest.proofs.colours.colour.Tie as tie
 
 abbrev Inv-loop : tie.InvT-loop
-Inv-loop rows count base₀ left₀ i₀ base left i = Colouring (masks rows) 1 (mask left₀) i (mask left) (mask base) × (i ≤ count)
+Inv-loop rows count base₀ left₀ i₀ base left i = Colouring (masks rows) (mask left₀) i (mask left) (mask base) × (i ≤ count)
 
 abbrev μ-loop : tie.MeasureT-loop
 μ-loop rows count base₀ left₀ i₀ base left i = count - i
@@ -21,12 +21,12 @@ returns c = let held = c .before .before .before .loop .inv in colouring-some (h
 class-requires : tie.Need-class-requires Inv-loop μ-loop
 class-requires c κs =
     let turn = c .before .before .before in
-    colouring-judgeable (turn .loop .inv .0) (turn .before .before .before .pre)
+    part-judgeable _ (turn .loop .inv .0 .part) (turn .before .before .before .pre)
 
 loop-again : tie.Need-loop-again Inv-loop μ-loop
 loop-again c =
     let turn = c .before .before .before .before .before .before in
-    (colouring-next (turn .loop .inv .0) (class-coloured (c .before .before .class .ensures) 1) (c .before .join .ensures) (c .minus .ensures), search needs)
+    (colouring-next (turn .loop .inv .0) (c .before .before .class .ensures) (c .before .join .ensures) (c .minus .ensures), search needs)
 
 returns-2 : tie.Need-returns-2 Inv-loop μ-loop
 returns-2 c = let held = c .before .loop .inv in colouring-some (held .0) (held .1)

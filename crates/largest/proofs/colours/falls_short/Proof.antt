@@ -1,67 +1,19 @@
--- A k-plex has at most as many of the classes so far as were counted; once nothing is left, these are all of c.
-use Prim.Native.Nat.{ℕ, _+_, min}
+-- What the members of s allow and what the classes of the rest allow are added.
 use native.Mathlib.Omega.{arith}
-use mathlib.Core.Path.{_≡_, refl, sym}
-use mathlib.Core.Bool.{false≢true}
-use borrow.Author.Tests.{ltb-true}
-use Rattle.sets.specs.Set.{size, minus}
-use Rattle.sets.specs.Words.{mask, masks}
-use Rattle.sets.specs.PointLaws.{minus-self}
-use Rattle.sets.specs.WalkLaws.{walk-goes-on, walk-over}
-use Rattle.largest.specs.ColourLaws.{Colouring, colouring-none, colouring-judgeable, colouring-rest, colouring-all, class-least, class-falls}
+use Rattle.largest.specs.ColourLaws.{part-judgeable, sharing-judgeable, coloured-any, shared-rest}
 use Rattle.largest.proofs.colours.falls_short.Statement.{statement}
 use Rattle.largest.proofs.colours.falls_short.Tie as tie
 
-abbrev Inv-loop : tie.InvT-loop
-Inv-loop rows k q have most₀ left₀ most left =
-    (n : ℕ) × Colouring (masks rows) k (mask left₀) n (mask left) (minus (mask left₀) (mask left)) × (most ≡ have + n)
+by-classes-requires : tie.Need-by-classes-requires
+by-classes-requires c κs =
+    let pre = c .before .before .pre in
+    (part-judgeable _ (c .by-members .ensures .1 .part) (sharing-judgeable pre), pre .floor)
 
-abbrev μ-loop : tie.MeasureT-loop
-μ-loop rows k q have most₀ left₀ most left = size (mask left)
-
--- the loop's record at this turn
-abbrev turn : tie.After-class Inv-loop μ-loop → tie.At-loop Inv-loop μ-loop
-turn c = c .before .before .before .before
-
-loop-holds : tie.Need-loop-holds Inv-loop μ-loop
-loop-holds c = (0, colouring-none (sym (minus-self _)), omega arith)
-
-class-requires : tie.Need-class-requires Inv-loop μ-loop
-class-requires c κs = let loop = c .before .before .before in colouring-judgeable (loop .loop .inv .1) (loop .before .before .pre .0)
-
-add-most : tie.Need-add-most Inv-loop μ-loop
-add-most c =
-    let size = c .before in
-    let room = size .before .before in
-    omega (arith, room .if2 .left, room .before .before .before .before .before .pre .1, c .smaller .ensures, size .size .ensures .1)
-
-loop-less : tie.Need-loop-less Inv-loop μ-loop
-loop-less c =
-    let class = c .before .before .before in
-    let on = class .before .before in
-    class-falls (class .class .ensures) (walk-goes-on (on .before .is-empty .ensures) (on .if1 .taken)) (c .minus .ensures)
-
-loop-again : tie.Need-loop-again Inv-loop μ-loop
-loop-again c =
-    let smaller = c .before in
-    let class = smaller .before .before in
-    let inv = turn class .loop .inv in (
-      _,
-      colouring-rest (inv .1) refl (class-least (class .class .ensures) _) (c .minus .ensures),
-      omega (arith, inv .2, smaller .smaller .ensures, smaller .before .size .ensures .0),
-    )
-
-returns-2 : tie.Need-returns-2 Inv-loop μ-loop
-returns-2 c e =
-    let loop = c .before .before in
-    let inv = loop .loop .inv in (
-      inv .0,
-      colouring-all (inv .1) (walk-over (c .before .is-empty .ensures) (c .if1 .left)),
-      omega (arith, inv .2, ltb-true (loop .loop .most) (loop .before .before .args .q) e),
-    )
+returns : tie.Need-returns
+returns c e =
+    let count = c .before .by-members .ensures in
+    let rest = c .by-classes .ensures e in
+    (_, shared-rest (count .1) (coloured-any (rest .1) _), omega (arith, count .2, rest .2))
 
 pub falls-short-spec : {M : Type 1} → statement M
-falls-short-spec =
-    tie.close
-    (tie.spec Inv-loop μ-loop loop-holds (λ c κs. tt) (λ c e. absurd (false≢true e)) class-requires (λ c κs. tt) (λ c κs. tt) add-most (λ c κs. tt)
-    loop-less loop-again returns-2)
+falls-short-spec = tie.close (tie.spec (λ c κs. c .before .pre) by-classes-requires returns)
