@@ -99,11 +99,14 @@ fn by_classes(rows: &[u64], k: usize, q: usize, have: usize, c: Set) -> bool
     most < q
 }
 
-// Has every k-plex between s and s with c fewer than q members: by the members of s, and then by colour classes? Only true is a promise.
+// Has every k-plex between s and s with c fewer than q members: by their number, by the members of s, and then by colour classes? Only true is a promise.
 pub(crate) fn falls_short(rows: &[u64], k: usize, q: usize, s: Set, c: Set) -> bool
     requires { ⌜ Sharing (masks (now rows)) k q (mask s) (mask c) ⌝ }
     ensures { λ r. ⌜ (r ≡ true → (n : ℕ) × Coloured (masks (now (rows .entry))) k (mask s) (mask c) n (mask c) × (size (mask s) + n < q)) ⌝ }
 {
+    if sets::size(s) + sets::size(c) < q {
+        return true;
+    }
     let count = by_members(rows, k, q, s, c);
     by_classes(rows, k, q, count.most, count.left)
 }
