@@ -15,10 +15,10 @@ fn highest(s: Set) -> usize
     ensures { λ r. ⌜ Highest (mask s) r ⌝ }
 {
     let mut last = sets::lowest(s);
-    let mut left = s;
-    while !sets::is_empty(left) {
-        last = sets::lowest(left);
-        left = sets::rest(left, last);
+    let mut todo = s;
+    while !sets::is_empty(todo) {
+        last = sets::lowest(todo);
+        todo = sets::rest(todo, last);
     }
     last
 }

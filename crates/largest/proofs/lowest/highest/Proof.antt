@@ -7,10 +7,10 @@ use Rattle.largest.proofs.lowest.highest.Statement.{statement}
 use Rattle.largest.proofs.lowest.highest.Tie as tie
 
 abbrev Inv-loop : tie.InvT-loop
-Inv-loop last₀ left₀ last left = Topmost (mask left₀) (mask left) last
+Inv-loop last₀ todo₀ last todo = Topmost (mask todo₀) (mask todo) last
 
 abbrev μ-loop : tie.MeasureT-loop
-μ-loop last₀ left₀ last left = mask left
+μ-loop last₀ todo₀ last todo = mask todo
 
 lowest-requires-2 : tie.Need-lowest-requires-2 Inv-loop μ-loop
 lowest-requires-2 c κs = walk-goes-on (c .before .is-empty .ensures) (c .if1 .taken)
