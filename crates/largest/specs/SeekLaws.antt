@@ -1,6 +1,5 @@
 -- Laws of the search for one clique: where too few vertices are left nothing listed is there, and what is sought has a candidate v or is in the others.
 --
---   Sweeping g ask have s b t      what a sweep relies on: the candidates are t and b, and nothing listed is in s and b
 --   Step g s b t v j d b2 t2       one step takes v out of t and lets it wait: with v the clique is j, the candidates are d, and b and t become b2 and t2
 --   Swept g ask have s b t b2 t2   a sweep on its way: b and t have become b2 and t2, and nothing listed is in s and b2
 use Prim.Native.Nat.{ℕ, _+_, _^_, _≤_, _<_, max}
@@ -26,7 +25,7 @@ use Rattle.search.specs.FoundLaws.{compatible-part, empty-part, with-found, wit
 use Rattle.search.specs.Trim.{Blocked, Cheap, Beside}
 use Rattle.search.specs.TrimLaws.{kept-near, trimmed-compatible}
 use Rattle.search.specs.CliqueLaws.{clique-adjacent, clique-near}
-use Rattle.largest.specs.Sought.{Sought, Seeking}
+use Rattle.largest.specs.Sought.{Sought, Seeking, Sweeping}
 use Rattle.largest.specs.SoughtLaws.{sought-some, sought-none, within-with}
 use Rattle.largest.specs.Colour.{Coloured}
 
@@ -143,10 +142,6 @@ module _ {g : List ℕ} {ask : Request} {have s c : ℕ} (h : Seeking g ask have
     joined-empty e o x f = by-bit x v (λ j. e x (with-found i beside f j)) (λ n. o x (without-found v f n))
 
 -- ---- a sweep
-
-pub record Sweeping (g : List ℕ) (ask : Request) (have s b t : ℕ) : Type 0 where
-  pub seeking : Seeking g ask have s (bitOr t b)
-  pub none : Empty g ask s b
 
 -- of the candidates c those in n colour classes are too few, and the others are to be tried
 module _ {g : List ℕ} {k p c n b t : ℕ} (d : Coloured g k p c n b) (e : t ≡ minus c b) where

@@ -3,6 +3,7 @@
 --   Within g k q s c r       r is a k-plex of at least q members that holds s and has no member outside s and c
 --   Sought g ask s c r       r is one, for the slack and the floor of ask, or r is 0 and nothing listed holds s and lies in s and c
 --   Seeking g ask have s c   what the search for a clique relies on: the slack is 1, s has `have` members, and c are candidates beside it
+--   Sweeping g ask have s b t   what a sweep relies on: the candidates are t and b, and nothing listed is in s and b
 use Prim.Native.Nat.{ℕ, _^_, _≤_, _<_}
 use mathlib.Core.Path.{_≡_}
 use mathlib.Core.List.{List}
@@ -33,3 +34,7 @@ pub record Seeking (g : List ℕ) (ask : Request) (have s c : ℕ) : Type 0 wher
   pub floor : 1 ≤ ask .floor
   pub counted : have ≡ size s
   pub fine : Compatible g 1 s c
+
+pub record Sweeping (g : List ℕ) (ask : Request) (have s b t : ℕ) : Type 0 where
+  pub seeking : Seeking g ask have s (bitOr t b)
+  pub none : Empty g ask s b

@@ -2,8 +2,7 @@
 ghost use lib.Bits.{bitOr};
 ghost use Rattle.sets.specs.Words.{mask, masks};
 ghost use Rattle.judging.specs.Request.{request};
-ghost use Rattle.largest.specs.Sought.{Sought, Seeking};
-ghost use Rattle.largest.specs.SeekLaws.{Sweeping};
+ghost use Rattle.largest.specs.Sought.{Sought, Seeking, Sweeping};
 use sets::Set;
 
 // One clique of at least q members that holds s, which has `have` members, and has no vertex outside s and c: empty where nothing listed is there.

@@ -1,8 +1,7 @@
 // The largest k-plex that holds forced vertices, and the lowest mask of one of its size.
 ghost use mathlib.Core.Path.{_≡_};
-ghost use Prim.Native.Nat.{_+_, _<_, _≤_, max};
-ghost use Rattle.sets.specs.Set.{size};
-ghost use Rattle.sets.specs.Words.{width, mask, masks};
+ghost use Prim.Native.Nat.{_≤_};
+ghost use Rattle.sets.specs.Words.{mask, masks};
 ghost use Rattle.judging.specs.Request.{request};
 ghost use Rattle.search.specs.Ready.{Settled};
 ghost use Rattle.search.specs.NearRows.{Lent};
@@ -17,6 +16,7 @@ mod colours;
 mod lowest;
 mod seek;
 mod start;
+mod table;
 
 use judging::Checked;
 use judging::Refusal;
@@ -38,56 +38,6 @@ fn first(rows: &[u64], near: &[u64], k: usize, f: Set) -> Set
     start::first(rows, near, k, f, c)
 }
 
-// The larger of two numbers.
-fn larger(a: usize, b: usize) -> usize
-    ensures { λ r. ⌜ r ≡ max a b ⌝ }
-{
-    if a < b {
-        return b;
-    }
-    a
-}
-
-// Fills the table so that it drops nothing: it then serves every floor.
-fn clear(rows: &[u64], k: usize, near: &mut [u64])
-    requires { ⌜ Searchable (masks (now rows)) (request k 0) × Lent (masks (now rows)) (masks (now near)) ⌝ }
-    ensures { λ _. ⌜ Settled (masks (now (rows .entry))) (masks (now (near .exit))) (request k 0) ⌝ }
-{
-    let all = sets::full(sets::count(rows));
-    search::near::fill(rows, k, 0, all, false, false, near);
-}
-
-// Fills the table for the search for more than `size` members, and gives its floor, which is 0 before and not changed again. Below 2k - 1 members a k-plex
-// may fall apart, so the reach says nothing; at slack 1 the table is not used. Pairs are left to the search, which sifts for the first vertices taken.
-fn refill(rows: &[u64], k: usize, floor: usize, size: usize, near: &mut [u64]) -> usize
-    requires { ⌜ Settled (masks (now rows)) (masks (now near)) (request k floor) × (floor ≤ size) × (size < width) ⌝ }
-    ensures { λ r. ⌜ Settled (masks (now (rows .entry))) (masks (now (near .exit))) (request k r) × (r ≤ size + 1) ⌝ }
-{
-    if k == 1 {
-        return floor;
-    }
-    if 0 < floor {
-        return floor;
-    }
-    if size + 2 < 2 * k {
-        return floor;
-    }
-    let target = larger(size, 2 * k - 1);
-    let all = search::candidates(rows, k, target, true);
-    search::near::fill(rows, k, target, all, true, false, near);
-    target
-}
-
-// Makes the table, which is filled for `floor`, serve the floor `size`.
-fn settle(rows: &[u64], k: usize, floor: usize, size: usize, near: &mut [u64])
-    requires { ⌜ Settled (masks (now rows)) (masks (now near)) (request k floor) × (size ≤ width) ⌝ }
-    ensures { λ _. ⌜ Settled (masks (now (rows .entry))) (masks (now (near .exit))) (request k size) ⌝ }
-{
-    if size < floor {
-        clear(rows, k, near);
-    }
-}
-
 // A k-plex of at least q members that holds f; empty where there is none.
 fn holding(rows: &[u64], near: &[u64], k: usize, q: usize, f: Set) -> Set
     requires { ⌜ Settled (masks (now rows)) (masks (now near)) (request k q) × Forced (masks (now rows)) k (mask f) × (1 ≤ q) ⌝ }
@@ -103,16 +53,16 @@ fn climb(rows: &[u64], k: usize, f: Set, near: &mut [u64]) -> Set
     requires { ⌜ Searchable (masks (now rows)) (request k 0) × Forced (masks (now rows)) k (mask f) × Lent (masks (now rows)) (masks (now near)) ⌝ }
     ensures { λ r. ⌜ Largest (masks (now (rows .entry))) k (mask f) (mask r) ⌝ }
 {
-    clear(rows, k, near);
+    table::clear(rows, k, near);
     let n = sets::count(rows);
     let mut best = first(rows, near, k, f);
     let mut floor = 0;
     while sets::size(best) < n {
         let size = sets::size(best);
-        floor = refill(rows, k, floor, size, near);
+        floor = table::refill(rows, k, floor, size, near);
         let found = holding(rows, near, k, size + 1, f);
         if sets::is_empty(found) {
-            settle(rows, k, floor, size, near);
+            table::settle(rows, k, floor, size, near);
             return lowest::lowest(rows, near, k, f, best);
         }
         best = found;
@@ -129,7 +79,7 @@ fn climb_apart(rows: &[u64], k: usize, f: Set) -> Set
     climb(rows, k, f, &mut near)
 }
 
-// The largest k-plex that holds the forced vertices, for the slack k, and of those of its size the one with the lowest mask. Nothing may be forced.
+// The largest k-plex that holds the forced vertices, for the slack k, and of those of its size the one with the lowest mask. The forced set may be empty.
 // Refusals: 1, 2, 4, 5, 7, and 11 where the forced set is no k-plex. Cost: exponential in the worst case.
 pub fn largest(rows: &[u64], slack: usize, forced: Set) -> LargestFound
     ensures { λ r. ⌜ largestFoundReply r ≡ largestReply (masks (now (rows .entry))) slack (mask forced) ⌝ }

@@ -46,7 +46,7 @@ fn spare(
 
 // Of the k-plexes that hold f and are as large as w, the largest, the one with the lowest mask. From the highest candidate down each is left out where a
 // plex of that size is left without it, and joins where there is none.
-pub fn lowest(rows: &[u64], near: &[u64], k: usize, f: Set, w: Set) -> Set
+pub(crate) fn lowest(rows: &[u64], near: &[u64], k: usize, f: Set, w: Set) -> Set
     requires { ⌜ Settled (masks (now rows)) (masks (now near)) (request k (size (mask w))) × Forced (masks (now rows)) k (mask f)
         × Top (masks (now rows)) k (mask f) (mask w) ⌝ }
     ensures { λ r. ⌜ Largest (masks (now (rows .entry))) k (mask f) (mask r) ⌝ }

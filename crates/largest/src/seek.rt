@@ -8,7 +8,7 @@ use sets::Set;
 
 // One k-plex of at least q members that holds s and has no member outside s and c. It is empty where nothing listed is there.
 // Candidates are sifted by pairs for the next `few` vertices taken.
-pub fn find(rows: &[u64], near: &[u64], k: usize, q: usize, few: usize, s: Set, c: Set) -> Set
+fn find(rows: &[u64], near: &[u64], k: usize, q: usize, few: usize, s: Set, c: Set) -> Set
     requires { ⌜ Ready (masks (now rows)) (masks (now near)) (request k q) (mask s) (mask c) × (1 ≤ q) ⌝ }
     ensures { λ r. ⌜ Sought (masks (now (rows .entry))) (request k q) (mask s) (mask c) (mask r) ⌝ }
 {
@@ -37,7 +37,7 @@ pub fn find(rows: &[u64], near: &[u64], k: usize, q: usize, few: usize, s: Set, 
 }
 
 // The same for any slack: at slack 1 by the search for a clique. The bound by colour classes is asked once: deeper in the search it seldom cuts.
-pub fn one(rows: &[u64], near: &[u64], k: usize, q: usize, s: Set, c: Set) -> Set
+pub(crate) fn one(rows: &[u64], near: &[u64], k: usize, q: usize, s: Set, c: Set) -> Set
     requires { ⌜ Ready (masks (now rows)) (masks (now near)) (request k q) (mask s) (mask c) × (1 ≤ q) ⌝ }
     ensures { λ r. ⌜ Sought (masks (now (rows .entry))) (request k q) (mask s) (mask c) (mask r) ⌝ }
 {

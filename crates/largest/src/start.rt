@@ -13,7 +13,7 @@ use sets::Set;
 
 // The candidates of `all` that are left once the vertices of f have joined, one after the other. None is left where one of these is no candidate any
 // more: nothing listed holds them all then.
-pub fn fit(rows: &[u64], near: &[u64], k: usize, q: usize, all: Set, f: Set) -> Set
+pub(crate) fn fit(rows: &[u64], near: &[u64], k: usize, q: usize, all: Set, f: Set) -> Set
     requires { ⌜ Settled (masks (now rows)) (masks (now near)) (request k q) × Candidates (masks (now rows)) (request k q) (mask all)
         × Forced (masks (now rows)) k (mask f) ⌝ }
     ensures { λ r. ⌜ Fitted (masks (now (rows .entry))) (request k q) (mask f) (mask r) ⌝ }
@@ -85,7 +85,7 @@ fn greedy(rows: &[u64], near: &[u64], k: usize, heavy: bool, f: Set, c: Set) -> 
 
 // The larger of two k-plexes, each grown by a cost of its own: the second is the better one on some dense graphs, and is not tried on others. At
 // slack 1 they are the same.
-pub fn first(rows: &[u64], near: &[u64], k: usize, f: Set, c: Set) -> Set
+pub(crate) fn first(rows: &[u64], near: &[u64], k: usize, f: Set, c: Set) -> Set
     requires { ⌜ Ready (masks (now rows)) (masks (now near)) (request k 0) (mask f) (mask c) ⌝ }
     ensures { λ r. ⌜ Holding (masks (now (rows .entry))) k (mask f) (mask r) ⌝ }
 {

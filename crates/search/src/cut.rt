@@ -32,7 +32,7 @@ pub fn is_short(rows: &[u64], k: usize, q: usize, parted: bool, s: Set, a: Set) 
 }
 
 // Can a vertex outside a be added to every plex inside a? The vertices that no member of a blocks are given.
-pub fn is_extendable(rows: &[u64], k: usize, extension: bool, a: Set, free: Set) -> bool
+pub(crate) fn is_extendable(rows: &[u64], k: usize, extension: bool, a: Set, free: Set) -> bool
     requires { ⌜ mask free ≡ unblocked (masks (now rows)) k (mask a) ⌝ }
     ensures { λ r. ⌜ (r ≡ true → T (extendable (masks (now (rows .entry))) k (mask a))) ⌝ }
 {
@@ -43,7 +43,15 @@ pub fn is_extendable(rows: &[u64], k: usize, extension: bool, a: Set, free: Set)
 }
 
 // Has no listed plex that holds s and v, and no vertex outside s, v and c, at least q members: by the second bound?
-pub fn is_bounded(rows: &[u64], k: usize, q: usize, second: bool, s: Set, c: Set, v: usize) -> bool
+pub(crate) fn is_bounded(
+    rows: &[u64],
+    k: usize,
+    q: usize,
+    second: bool,
+    s: Set,
+    c: Set,
+    v: usize,
+) -> bool
     requires { ⌜ Boundable (masks (now rows)) k (mask s) (with (mask c) v) v ⌝ }
     ensures { λ r. ⌜ (r ≡ true → Empty (masks (now (rows .entry))) (request k q) (with (mask s) v) (mask c)) ⌝ }
 {

@@ -21,7 +21,7 @@ fn is_close(rows: &[u64], k: usize, q: usize, core: Set, v: usize, u: usize) -> 
 }
 
 // The members of `from`, v aside, that are close to v.
-pub fn pair_row(rows: &[u64], k: usize, q: usize, core: Set, from: Set, v: usize) -> Set
+pub(crate) fn pair_row(rows: &[u64], k: usize, q: usize, core: Set, from: Set, v: usize) -> Set
     requires { ⌜ Pairable (masks (now rows)) k q (mask core) × (mask from < 2 ^ length (masks (now rows))) × (v < length (masks (now rows))) ⌝ }
     ensures { λ r. ⌜ mask r ≡ pairRow (masks (now (rows .entry))) k q (mask core) (mask from) v ⌝ }
 {

@@ -108,7 +108,8 @@ module _ (t : ℕ) where
   clique-returns-2 c =
       let sized = c .before .before in
       sought-none (c .empty .ensures)
-      (coloured-empty 0 (λ u. omega (arith, bit-none u)) (start sized .pre .1 .counted) (coloured-size _ _ _ _) (omega (arith, c .before .if2 .taken, sized .size .ensures .0)))
+      (coloured-empty 0 (λ u. omega (arith, bit-none u)) (start sized .pre .1 .counted) (coloured-size _ _ _ _)
+      (omega (arith, c .before .if2 .taken, sized .size .ensures .0)))
 
   clique-colour-requires : clique-lts.Need-colour-requires (clique-calls t) (clique-at t) clique.Post
   clique-colour-requires c κs = seek-judgeable (start (c .before) .pre .1)

@@ -115,4 +115,5 @@ pub lowest-spec : {M : Type 1} → statement M
 lowest-spec =
     tie.close
     (tie.spec Inv-loop μ-loop (λ c κs. tt) (λ c. omega (arith, start c .pre .0 .slack .0)) candidates-requires fit-requires loop-holds (λ c κs. tt)
-    highest-requires without-requires (λ c κs. sparing c) (λ c κs. tt) beside-requires sift-requires with-requires loop-less loop-again loop-less-2 loop-again-2 returns)
+    highest-requires without-requires (λ c κs. sparing c) (λ c κs. tt) beside-requires sift-requires with-requires loop-less loop-again loop-less-2
+    loop-again-2 returns)

@@ -5,8 +5,8 @@ use borrow.Author.Needs.{needs}
 use Rattle.sets.specs.Set.{full}
 use Rattle.sets.specs.RangeLaws.{true-is-not-false}
 use Rattle.search.specs.StartLaws.{all-candidates, start-pairing, filled-settled}
-use Rattle.largest.proofs.clear.Statement.{statement}
-use Rattle.largest.proofs.clear.Tie as tie
+use Rattle.largest.proofs.table.clear.Statement.{statement}
+use Rattle.largest.proofs.table.clear.Tie as tie
 
 full-requires : tie.Need-full-requires
 full-requires c κs =

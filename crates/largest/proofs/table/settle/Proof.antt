@@ -2,8 +2,8 @@
 use native.Mathlib.Omega.{arith}
 use borrow.Author.Needs.{needs}
 use Rattle.largest.specs.ClimbLaws.{settled-higher}
-use Rattle.largest.proofs.settle.Statement.{statement}
-use Rattle.largest.proofs.settle.Tie as tie
+use Rattle.largest.proofs.table.settle.Statement.{statement}
+use Rattle.largest.proofs.table.settle.Tie as tie
 
 clear-requires : tie.Need-clear-requires
 clear-requires c κs =

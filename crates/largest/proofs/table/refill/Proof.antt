@@ -7,8 +7,8 @@ use Rattle.judging.specs.Request.{request}
 use Rattle.search.specs.Start.{Searchable}
 use Rattle.search.specs.StartLaws.{settled-searchable, start-pairing, filled-settled}
 use Rattle.largest.specs.ClimbLaws.{settled-higher}
-use Rattle.largest.proofs.refill.Statement.{statement}
-use Rattle.largest.proofs.refill.Tie as tie
+use Rattle.largest.proofs.table.refill.Statement.{statement}
+use Rattle.largest.proofs.table.refill.Tie as tie
 
 -- the request with the floor that the table is filled for
 searchable : (c : tie.After-larger) → let at = c .before .before .before .before .before .before in
