@@ -1,6 +1,6 @@
 -- The largest k-plex that holds a set f of forced vertices, and of those of that size the lowest mask.
 --
---   holding g k f s      s is a k-plex that holds f
+--   holding g k f s      s is a k-plex that holds f (document 02, card 1: a theme that holds the must-shows)
 --   largestSize g k f    the greatest size of such a plex, over all masks below 2 ^ n
 --   largestMask g k f    the lowest mask of one of that size, or 2 ^ n where there is none
 --   Holding              as a statement: s is a mask below 2 ^ n with holding g k f s

@@ -1,29 +1,7 @@
 //! The published algorithm (Dai, Li, Qin, Liao, Wang: Scaling Up Maximal k-plex Enumeration, Algorithms 1 and 2): vertices in degeneracy order as
 //! seeds, an excluded set carried along, pairs by common neighbours at the seed, and the second bound before each branch.
 use crate::plain::full;
-
-fn size(s: u64) -> u32 {
-    s.count_ones()
-}
-
-fn has(s: u64, v: usize) -> bool {
-    s >> v & 1 == 1
-}
-
-fn members(mut s: u64) -> impl Iterator<Item = usize> {
-    std::iter::from_fn(move || {
-        (s != 0).then(|| {
-            let v = s.trailing_zeros() as usize;
-            s &= s - 1;
-            v
-        })
-    })
-}
-
-/// How many members of s the vertex v is not adjacent to.
-fn misses(rows: &[u64], s: u64, v: usize) -> u32 {
-    size(s & !rows[v])
-}
+use crate::words::{has, members, misses, size};
 
 /// Vertices in degeneracy order: again and again the one of least degree in what is left.
 fn degeneracy(rows: &[u64]) -> Vec<usize> {

@@ -6,6 +6,7 @@
 //! made here that looks for one vertex more than the best k-plex has. 003's Property 3 has connected graphs alone in mind: a k-plex of fewer than 2k - 1
 //! vertices may fall apart. Lemma 8 is therefore used from there on alone, where it says that members are at most two edges apart.
 use crate::plain::{self, full};
+use crate::words::{has, members, misses, size};
 use std::cmp::Reverse;
 
 /// The size and the mask by trying all sets, where the forced set is a k-plex.
@@ -57,29 +58,6 @@ fn peeled(rows: &[u64], k: u32, forced: u64) -> u64 {
         left &= !(1 << v);
     }
     (0..rows.len()).fold(left, |s, v| if is_plex(rows, k, s | 1 << v) { s | 1 << v } else { s })
-}
-
-fn size(s: u64) -> u32 {
-    s.count_ones()
-}
-
-fn has(s: u64, v: usize) -> bool {
-    s >> v & 1 == 1
-}
-
-fn members(mut s: u64) -> impl Iterator<Item = usize> {
-    std::iter::from_fn(move || {
-        (s != 0).then(|| {
-            let v = s.trailing_zeros() as usize;
-            s &= s - 1;
-            v
-        })
-    })
-}
-
-/// How many members of s the vertex v is not adjacent to.
-fn misses(rows: &[u64], s: u64, v: usize) -> u32 {
-    size(s & !rows[v])
 }
 
 fn is_plex(rows: &[u64], k: u32, s: u64) -> bool {

@@ -7,6 +7,7 @@
 //!   fp         the list by the published algorithm (Dai and others; degeneracy seeds, excluded set, second bound)
 //!   cliques    the list for slack 1 by Bron and Kerbosch with Tomita's pivot
 //!   largest    the largest k-plex that holds forced vertices, by trying all sets and by 003's algorithm
+//!   words      sets in a word, for the fast ones
 //!   instances  graphs of our own making
 //!   calls      the exported calls on slices
 //!   cases      inputs that several tests share
@@ -20,3 +21,4 @@ pub mod largest;
 pub mod plain;
 pub mod refusals;
 pub mod text;
+mod words;
