@@ -7,17 +7,17 @@ use mathlib.Core.List.{List, [], _∷_, _++_, append-assoc}
 use lib.Bits.{bitAnd}
 use lib.Dec.{eqb, ltb}
 use lib.ListN.{length}
-use borrow.Author.Tests.{le-leb, lt-leb, eqb-true, not-false}
+use borrow.Author.Tests.{le-leb, lt-leb, le-ltb, lt-ltb, ltb-false, eqb-true, not-false}
 use Rattle.sets.specs.Set.{bit, has, with}
-use Rattle.sets.specs.RangeLaws.{true-holds}
 use Rattle.sets.specs.BitLaws.{bit-le, bit-and}
 use Rattle.sets.specs.PointLaws.{bit-none}
 use Rattle.sets.specs.SubsetLaws.{sub-with}
-use Rattle.judging.specs.Plex.{plex}
+use Rattle.judging.specs.Plex.{looseness}
 use Rattle.judging.specs.Refusal.{refused, Cause, firstOf, mostSlack, setCause, vertexOutCause}
 use Rattle.judging.specs.Setting.{Judgeable}
 use Rattle.judging.specs.Calls.{refusal, passed, checkedReply, slackCheck, setCheck}
-use Rattle.judging.specs.PlexLaws.{plex-holds, hereditary}
+use Rattle.judging.specs.PlexLaws.{hereditary}
+use Rattle.judging.specs.LoosenessLaws.{loose-plex}
 use Rattle.judging.specs.RefusalLaws.{first-holds, first-skips, passed-head, passed-tail, passed-front, passed-back}
 use Rattle.judging.specs.RefusalLaws.{slack-accepted, set-checked, set-below, vertex-below}
 use Rattle.judging.specs.CallLaws.{set-outside, set-inside, front-refused, front-accepted}
@@ -30,30 +30,33 @@ use Rattle.bounds.specs.BoundSetting.{Boundable}
 module _ (g : List ℕ) (k s c v : ℕ) where
   -- ---- number 10, as the code tests it
 
-  module _ {x : ℕ} (w : x ≡ with s v) {p : Bool} (e : p ≡ plex g k x) where
-    plexes : p ≡ plex g k (with s v)
-    plexes = e ∙ ap (plex g k) w
+  module _ {x : ℕ} (w : x ≡ with s v) {l : ℕ} (e : l ≡ looseness g x) where
+    loose : l ≡ looseness g (with s v)
+    loose = e ∙ ap (looseness g) w
 
-    pub misplaced-plex : p ≡ false → true ≡ misplaced g k s c v
+    pub misplaced-loose : k < l → true ≡ misplaced g k s c v
     unfolding misplaced
-    misplaced-plex n = ap (λ (b : Bool). not b || not (has c v) || overlap s c) (sym n ∙ plexes)
+    misplaced-loose n = ap (λ (b : Bool). b || not (has c v) || overlap s c) (sym (lt-ltb k (looseness g (with s v)) (omega (arith, loose))))
 
-    module _ (y : p ≡ true) {h : Bool} (i : h ≡ has c v) where
+    module _ (y : l ≤ k) {h : Bool} (i : h ≡ has c v) where
+      tight : false ≡ ltb k (looseness g (with s v))
+      tight = sym (le-ltb k (looseness g (with s v)) (omega (arith, loose)))
+
       pub misplaced-vertex : h ≡ false → true ≡ misplaced g k s c v
       unfolding misplaced
-      misplaced-vertex n = ap₂ (λ (a b : Bool). not a || not b || overlap s c) (sym y ∙ plexes) (sym n ∙ i)
+      misplaced-vertex n = ap₂ (λ (a b : Bool). a || not b || overlap s c) tight (sym n ∙ i)
 
       pub misplaced-overlap : h ≡ true → {m : ℕ} → m ≡ bitAnd s c → {o : Bool} → o ≡ eqb m 0 → not o ≡ misplaced g k s c v
       unfolding misplaced overlap
       misplaced-overlap z {m} q {o} d =
-          ap not (d ∙ ap (λ (x : ℕ). eqb x 0) q) ∙ ap₂ (λ (a b : Bool). not a || not b || overlap s c) (sym y ∙ plexes) (sym z ∙ i)
+          ap not (d ∙ ap (λ (x : ℕ). eqb x 0) q) ∙ ap₂ (λ (a b : Bool). a || not b || overlap s c) tight (sym z ∙ i)
 
   -- what is not misplaced
-  well-placed : (a b o : Bool) → (not a || not b || o) ≡ false → (a ≡ true) × (b ≡ true) × (o ≡ false)
-  well-placed true true false e = (refl, refl, refl)
-  well-placed true true true e = absurd (let z : _≡_ {A = ℕ} 0 1 = cc in omega arith)
-  well-placed true false o e = absurd (let z : _≡_ {A = ℕ} 0 1 = cc in omega arith)
-  well-placed false b o e = absurd (let z : _≡_ {A = ℕ} 0 1 = cc in omega arith)
+  well-placed : (a b o : Bool) → (a || not b || o) ≡ false → (a ≡ false) × (b ≡ true) × (o ≡ false)
+  well-placed false true false e = (refl, refl, refl)
+  well-placed false true true e = absurd (let z : _≡_ {A = ℕ} 0 1 = cc in omega arith)
+  well-placed false false o e = absurd (let z : _≡_ {A = ℕ} 0 1 = cc in omega arith)
+  well-placed true b o e = absurd (let z : _≡_ {A = ℕ} 0 1 = cc in omega arith)
 
   -- ---- the causes in their order
 
@@ -111,7 +114,9 @@ module _ (g : List ℕ) (k s c v : ℕ) where
             record {
               inside = judged .inside;
               slack = slack .1;
-              plex = hereditary g k s (with s v) (sub-with s v) (plex-holds g k (with s v) (true-holds (plex g k (with s v)) (placed .0)));
+              plex =
+                  hereditary g k s (with s v) (sub-with s v)
+                  (loose-plex g k (with s v) (ltb-false k (looseness g (with s v)) (placed .0)));
             };
         valid = judged .valid;
         some = slack .0;
@@ -135,9 +140,9 @@ module _ (g : List ℕ) (k s c v : ℕ) where
       last : firstOf places passed ≡ passed
       last = passed-tail (setCause g c) places later
 
-      placed : (plex g k (with s v) ≡ true) × (has c v ≡ true) × (not (eqb (bitAnd s c) 0) ≡ false)
+      placed : (ltb k (looseness g (with s v)) ≡ false) × (has c v ≡ true) × (not (eqb (bitAnd s c) 0) ≡ false)
       placed =
-          well-placed (plex g k (with s v)) (has c v) (not (eqb (bitAnd s c) 0))
+          well-placed (ltb k (looseness g (with s v))) (has c v) (not (eqb (bitAnd s c) 0))
           (passed-head (boundCause g k s c v) [] (passed-tail (vertexOutCause g v) (boundCause g k s c v ∷ []) last))
 
       meet : bitAnd s c ≡ 0

@@ -1,6 +1,6 @@
 -- What the calls that give a bound answer, for every input: their causes in document 01's order, and the bound.
 --
---   misplaced g k s c v          s and v are no k-plex, v is not in c, or s and c overlap
+--   misplaced g k s c v          s with v is looser than k, v is not in c, or s and c overlap
 --   boundCause g k s c v         the same as a cause, number 10
 --   boundCheck g k s c v         the causes 1, 2, 4, 5, 7 and 10
 --   firstBoundReply g k s c v    the answer to: what is the first bound?
@@ -9,9 +9,9 @@ use Prim.Native.Nat.{ℕ}
 use mathlib.Core.Bool.{Bool, not, _||_}
 use mathlib.Core.List.{List, [], _∷_, _++_}
 use lib.Bits.{bitAnd}
-use lib.Dec.{eqb}
+use lib.Dec.{eqb, ltb}
 use Rattle.sets.specs.Set.{has, with}
-use Rattle.judging.specs.Plex.{plex}
+use Rattle.judging.specs.Plex.{looseness}
 use Rattle.judging.specs.Refusal.{Reply, answered, Cause, cause, firstOf, setCause, vertexOutCause}
 use Rattle.judging.specs.Calls.{refusal, slackCheck}
 use Rattle.bounds.specs.Bound.{firstBound, secondBound}
@@ -22,7 +22,7 @@ unfoldable pub overlap : ℕ → ℕ → Bool
 overlap s c = not (eqb (bitAnd s c) 0)
 
 unfoldable pub misplaced : List ℕ → ℕ → ℕ → ℕ → ℕ → Bool
-misplaced g k s c v = not (plex g k (with s v)) || not (has c v) || overlap s c
+misplaced g k s c v = ltb k (looseness g (with s v)) || not (has c v) || overlap s c
 
 unfoldable pub boundCause : List ℕ → ℕ → ℕ → ℕ → ℕ → Cause
 boundCause g k s c v = cause (misplaced g k s c v) 10 0

@@ -65,12 +65,12 @@ pub enum BoundFound {
     Refused(Refusal),
 }
 
-// Are s and v no plex, is v not in c, or do s and c overlap?
+// Is s with v looser than k, is v not in c, or do s and c overlap?
 fn is_misplaced(rows: &[u64], k: usize, s: Set, c: Set, v: usize) -> bool
     requires { ⌜ Inside (masks (now rows)) (mask s) × (v < length (masks (now rows))) ⌝ }
     ensures { λ r. ⌜ r ≡ misplaced (masks (now (rows .entry))) k (mask s) (mask c) v ⌝ }
 {
-    if !judging::plex::is_plex(rows, k, sets::with(s, v)) {
+    if k < judging::plex::looseness(rows, sets::with(s, v)) {
         return true;
     }
     if !sets::has(c, v) {

@@ -2,19 +2,21 @@
 --
 --   numberOf, valueOf     document 01's number and value of each refusal
 --   refusal               a refusal as a reply
---   plexReply g k s       the answer to: is s a k-plex?
+--   loosenessReply g s    the answer to: how loose is s?
 --   maximalReply g k s    the answer to: is s a maximal k-plex?
 use Prim.Native.Nat.{ℕ}
 use mathlib.Core.Bool.{Bool, true, false}
 use mathlib.Core.List.{List, [], _∷_, _++_}
 use lib.ListN.{length}
-use Rattle.judging.specs.Plex.{plex, maximal}
+use Rattle.judging.specs.Plex.{maximal, looseness}
 use Rattle.judging.specs.Request.{Request}
 use Rattle.judging.specs.Refusal.{Reply, refused, answered, Cause, firstOf, vertexCause, slackCause, floorCause, graphCauses, setCause}
 use Rattle.judging.specs.declared.Refusal.{Refusal}
 use Rattle.judging.specs.declared.Refusal.the-variants.{Vertices, Slack, Floor, Row, OneWay, Slots, Outside, Line, Room, Bound, Forced}
 use Rattle.judging.specs.declared.Checked.{Checked}
 use Rattle.judging.specs.declared.Checked.the-variants.{Passed, Failed}
+use Rattle.judging.specs.declared.LoosenessFound.{LoosenessFound}
+use Rattle.judging.specs.declared.LoosenessFound.the-variants as loosenessFound
 use Rattle.judging.specs.declared.Judged.{Judged}
 use Rattle.judging.specs.declared.Judged.the-variants.{Yes, No, Refused}
 
@@ -68,19 +70,27 @@ slackCheck g k = vertexCause (length g) ∷ slackCause k ∷ graphCauses g
 unfoldable pub requestCheck : List ℕ → Request → List Cause
 requestCheck g ask = vertexCause (length g) ∷ slackCause (ask .slack) ∷ floorCause (ask .slack) (ask .floor) ∷ graphCauses g
 
+-- 1, 4, 5, 7
+unfoldable pub insideCheck : List ℕ → ℕ → List Cause
+insideCheck g s = graphCheck g ++ setCause g s ∷ []
+
 -- 1, 2, 4, 5, 7
 unfoldable pub setCheck : List ℕ → ℕ → ℕ → List Cause
 setCheck g k s = slackCheck g k ++ setCause g s ∷ []
 
 -- ---- the public calls
 
+abbrev pub loosenessFoundReply : LoosenessFound → Reply ℕ
+loosenessFoundReply (loosenessFound.Looseness m) = answered 0 m
+loosenessFoundReply (loosenessFound.Refused f) = refusal f
+
+unfoldable pub loosenessReply : List ℕ → ℕ → Reply ℕ
+loosenessReply g s = firstOf (insideCheck g s) (answered 0 (looseness g s))
+
 abbrev pub judgedReply : Judged → Reply Bool
 judgedReply Yes = answered 0 true
 judgedReply No = answered 0 false
 judgedReply (Refused f) = refusal f
-
-unfoldable pub plexReply : List ℕ → ℕ → ℕ → Reply Bool
-plexReply g k s = firstOf (setCheck g k s) (answered 0 (plex g k s))
 
 unfoldable pub maximalReply : List ℕ → ℕ → ℕ → Reply Bool
 maximalReply g k s = firstOf (setCheck g k s) (answered 0 (maximal g k s))

@@ -11,8 +11,8 @@ use Rattle.sets.specs.Set.{bit, In, Sub, size, with, minus}
 use Rattle.sets.specs.Graph.{row}
 use Rattle.sets.specs.BitLaws.{ext, bit-le, bit-and, bit-minus}
 use Rattle.sets.specs.PointLaws.{bit-with, single-in, single-out, by-bit}
-use Rattle.sets.specs.SubsetLaws.{in-below, has-in, in-has}
-use Rattle.sets.specs.SizeLaws.{two-members, size-minus, size-with, size-mono}
+use Rattle.sets.specs.SubsetLaws.{in-below, has-in, in-has, positive}
+use Rattle.sets.specs.SizeLaws.{two-members, size-minus, size-with, size-mono, positive-size}
 use Rattle.judging.specs.Graph.{adjacent, degree, missing, Valid}
 
 -- the members of s, adjacent to a or not
@@ -25,6 +25,12 @@ pub missing-mono : (g : List ℕ) (s t a : ℕ) → Sub s t → missing g s a �
 unfolding missing
 missing-mono g s t a h =
     size-mono (minus s (row g a)) (minus t (row g a)) (λ v. omega (arith, bit-minus s (row g a) v, bit-minus t (row g a) v, h v))
+
+-- a member misses itself
+pub missing-self : {g : List ℕ} (s v : ℕ) → Valid g → v < length g → In v s → 1 ≤ missing g s v
+unfolding missing
+missing-self {g} s v ok l i =
+    positive-size (minus s (row g v)) (positive (minus s (row g v)) v (omega (arith, bit-minus s (row g v) v, ok .loopless v l)))
 
 pub degree-mono : (g : List ℕ) (s t a : ℕ) → Sub s t → degree g s a ≤ degree g t a
 unfolding degree

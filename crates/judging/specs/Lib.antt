@@ -7,6 +7,7 @@ pub mod Setting
 pub mod Calls
 pub mod GraphLaws
 pub mod PlexLaws
+pub mod LoosenessLaws
 pub mod MaximalLaws
 pub mod ExtensionLaws
 pub mod NarrowLaws

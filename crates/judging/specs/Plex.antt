@@ -1,6 +1,7 @@
 -- k-plexes and maximal k-plexes, by Seidman and Foster's definition.
 --
 --   plex g k s        s is a k-plex (document 01: a theme; 001, Definition 1): each member is adjacent to at least |s| - k members
+--   looseness g s     the most members of s that a member misses, itself counted; 0 for no members. It is the least k for which s is a k-plex
 --   maximal g k s     s is a maximal k-plex (document 01: a maximal theme): no other k-plex of the graph contains it
 --   Plex, Maximal     the same as statements
 --   unblocked g k s   the vertices outside s that are adjacent to each member of s that misses k or more of s
@@ -11,12 +12,15 @@ use mathlib.Core.Bool.{Bool, not, _&&_, _||_}
 use mathlib.Core.List.{List}
 use lib.Dec.{eqb, leb, ltb}
 use lib.ListN.{length}
-use Rattle.sets.specs.Ranges.{range, all, any}
+use Rattle.sets.specs.Ranges.{range, all, any, greatest}
 use Rattle.sets.specs.Set.{has, In, Sub, size, subset, members, setOf}
 use Rattle.judging.specs.Graph.{adjacent, degree, missing}
 
 unfoldable pub plex : List ℕ → ℕ → ℕ → Bool
 plex g k s = all (λ v. leb (size s) (degree g s v + k)) (members (length g) s)
+
+unfoldable pub looseness : List ℕ → ℕ → ℕ
+looseness g s = greatest (missing g s) (members (length g) s)
 
 unfoldable pub maximal : List ℕ → ℕ → ℕ → Bool
 maximal g k s = plex g k s && all (λ t. not (subset s t && plex g k t) || eqb t s) (range (2 ^ length g))

@@ -1,27 +1,23 @@
--- Laws of k-plexes: the statement behind the test, also member by member; parts of a plex and small sets are plexes; a plex is maximal where no single
--- vertex can be added.
+-- Laws of k-plexes: the statement behind the test; parts of a plex and small sets are plexes; a plex is maximal where no single vertex can be added.
 use Prim.Native.Nat.{ℕ, _+_, _^_, _≤_, _<_}
 use native.Mathlib.Nat.{le-trans}
 use native.Mathlib.Omega.{arith}
 use native.Mathlib.Decide.{decLe}
 use mathlib.Core.Path.{_≡_, sym, ap, subst}
 use mathlib.Core.Logic.{_⊎_, inl, inr}
-use mathlib.Core.Bool.{Bool, true, false, not, _&&_, _||_}
+use mathlib.Core.Bool.{Bool, not, _&&_, _||_}
 use mathlib.Core.List.{List}
 use lib.Dec.{T, eqb, leb, leb→le, le→leb, eqb→eq, eqb-refl, T-not}
 use lib.ListN.{length}
 use Rattle.sets.specs.Ranges.{range, all}
 use Rattle.sets.specs.Set.{bit, Sub, size, subset, with}
 use Rattle.sets.specs.RangeLaws.{mem-range, range-mem, all-elim, all-intro, and-left, and-right, both, or-cases, or-left, or-right}
-use Rattle.sets.specs.RangeLaws.{test, is-true, is-false, false-fails}
+use Rattle.sets.specs.RangeLaws.{test}
 use Rattle.sets.specs.SubsetLaws.{sub-with, with-sub, with-same, with-below, subset-sub, sub-subset, in-of-sub, in-below}
 use Rattle.sets.specs.SizeLaws.{missing-member, sub-size-eq}
 use Rattle.sets.specs.MemberLaws.{all-members, members-all}
-use Rattle.sets.specs.Words.{Lowest}
-use Rattle.sets.specs.WalkLaws.{Walked, walk-all, walk-member, walk-below}
 use Rattle.judging.specs.Graph.{degree, missing}
 use Rattle.judging.specs.Plex.{plex, maximal, Plex, Maximal}
-use Rattle.judging.specs.Setting.{Inside}
 use Rattle.judging.specs.GraphLaws.{degree-missing, missing-mono}
 
 pub plex-holds : (g : List ℕ) (k s : ℕ) → T (plex g k s) → Plex g k s
@@ -34,16 +30,6 @@ unfolding plex
 plex-test g k s h =
     members-all (λ (u : ℕ). leb (size s) (degree g s u + k)) (length g) s (λ v l e.
     le→leb (size s) (degree g s v + k) (omega (arith, degree-missing g s v, h v l e)))
-
--- a plex, member by member
-module _ {g : List ℕ} {k s left : ℕ} (h : Inside g s) (w : Walked (λ v. missing g s v ≤ k) s left) where
-  pub plex-fails : {v : ℕ} → Lowest left v → k < missing g s v → false ≡ plex g k s
-  plex-fails {v} l m =
-      is-false (plex g k s) (λ t.
-      omega (arith, plex-holds g k s t v (walk-below (h .below) (w .part) l) (walk-member s (w .part) l)))
-
-  pub plex-passes : left ≡ 0 → true ≡ plex g k s
-  plex-passes z = is-true (plex g k s) (plex-test g k s (λ v l e. walk-all z w v e))
 
 -- a part of a plex is a plex
 pub hereditary : (g : List ℕ) (k s t : ℕ) → Sub s t → Plex g k t → Plex g k s
@@ -92,10 +78,6 @@ module _ (g : List ℕ) (k s : ℕ) where
   maximal-test m =
       both (plex g k s) (all (others g k s) (range (2 ^ length g))) (plex-test g k s (m .0))
       (all-intro (others g k s) (range (2 ^ length g)) (λ u l. others-test u (m .1 u (range-mem (2 ^ length g) u l))))
-
--- what is no plex is not maximal
-pub no-plex : (g : List ℕ) (k s : ℕ) → plex g k s ≡ false → false ≡ maximal g k s
-no-plex g k s e = is-false (maximal g k s) (λ t. false-fails (plex g k s) e (plex-test g k s (maximal-holds g k s t .0)))
 
 -- a plex is maximal where no single vertex can be added
 pub maximal-by-one : (g : List ℕ) (k s : ℕ) → Plex g k s

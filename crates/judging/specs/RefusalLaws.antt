@@ -20,7 +20,7 @@ use Rattle.judging.specs.Graph.{adjacent, Valid}
 use Rattle.judging.specs.Request.{Request}
 use Rattle.judging.specs.Refusal.{Reply, refused, answered, Cause, firstOf, mostVertices, mostSlack, outside, vertexCause, slackCause, floorCause}
 use Rattle.judging.specs.Refusal.{badRow, oneWay, lowestRow, rowCause, edgeCause, graphCauses, setCause, vertexOutCause}
-use Rattle.judging.specs.Calls.{passed, graphCheck, slackCheck, requestCheck, setCheck}
+use Rattle.judging.specs.Calls.{passed, graphCheck, slackCheck, requestCheck, insideCheck, setCheck}
 use Rattle.judging.specs.Setting.{Sized, Judgeable}
 
 -- ---- one cause after the other
@@ -265,10 +265,15 @@ module _ (g : List ℕ) where
   unfolding vertexOutCause
   vertex-below v e = leb-false (length g) v e
 
+  graph-set : (s : ℕ) → firstOf (graphCheck g) passed ≡ passed → firstOf (setCause g s ∷ []) passed ≡ passed → Judgeable g s
+  graph-set s front back =
+      let z = graph-sized front in
+      record { inside = record { some = z .some; most = z .most; below = set-below s (passed-head _ _ back) }; valid = graph-checked front }
+
+  pub inside-checked : (s : ℕ) → firstOf (insideCheck g s) passed ≡ passed → Judgeable g s
+  unfolding insideCheck
+  inside-checked s e = graph-set s (passed-front _ _ e) (passed-back (graphCheck g) _ e)
+
   pub set-checked : (k s : ℕ) → firstOf (setCheck g k s) passed ≡ passed → Judgeable g s
   unfolding setCheck
-  set-checked k s e =
-      let front = slack-graph k (passed-front _ _ e) in
-      let z = graph-sized front in
-      let below = set-below s (passed-head _ _ (passed-back (slackCheck g k) _ e)) in
-      record { inside = record { some = z .some; most = z .most; below = below }; valid = graph-checked front }
+  set-checked k s e = graph-set s (slack-graph k (passed-front _ _ e)) (passed-back (slackCheck g k) _ e)

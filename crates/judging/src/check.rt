@@ -2,11 +2,12 @@
 ghost use mathlib.Core.Path.{_≡_};
 ghost use mathlib.Core.Bool.{not};
 ghost use Prim.Native.Nat.{_*_, _-_, _<_, _≤_};
+ghost use mathlib.Core.List.{List, [], _∷_, _++_};
 ghost use lib.ListN.{length};
 ghost use Rattle.sets.specs.Words.{mask, masks};
 ghost use Rattle.judging.specs.Request.{asked};
-ghost use Rattle.judging.specs.Refusal.{mostVertices, mostSlack, outside, firstOf, badRow, oneWay, lowestRow, graphCauses};
-ghost use Rattle.judging.specs.Calls.{passed, checkedReply, graphCheck, slackCheck, requestCheck, setCheck};
+ghost use Rattle.judging.specs.Refusal.{mostVertices, mostSlack, outside, Cause, firstOf, badRow, oneWay, lowestRow, graphCauses, setCause};
+ghost use Rattle.judging.specs.Calls.{passed, checkedReply, graphCheck, slackCheck, requestCheck, insideCheck, setCheck};
 ghost use Rattle.judging.specs.Setting.{Sized, LowRows};
 use crate::Checked;
 use crate::Refusal;
@@ -155,11 +156,12 @@ pub fn check_request(rows: &[u64], request: Request) -> Checked
     check_edges(rows)
 }
 
-// Refusals 1, 2, 4, 5 and 7.
-pub fn check_set(rows: &[u64], slack: usize, s: Set) -> Checked
-    ensures { λ r. ⌜ checkedReply r ≡ firstOf (setCheck (masks (now (rows .entry))) slack (mask s)) passed ⌝ }
+// What the checks before it gave, and then refusal 7.
+fn then_set(checked: Checked, rows: &[u64], s: Set) -> Checked
+    requires { ⌜ (checkedReply checked ≡ passed → Sized (masks (now rows))) ⌝ }
+    ensures { λ r. ⌜ ((xs : List Cause) → checkedReply checked ≡ firstOf xs passed
+        → checkedReply r ≡ firstOf (xs ++ setCause (masks (now (rows .entry))) (mask s) ∷ []) passed) ⌝ }
 {
-    let checked = check_slack(rows, slack);
     if let Checked::Failed(f) = checked {
         return Checked::Failed(f);
     }
@@ -167,4 +169,18 @@ pub fn check_set(rows: &[u64], slack: usize, s: Set) -> Checked
         return Checked::Failed(Refusal::Outside);
     }
     Checked::Passed
+}
+
+// Refusals 1, 4, 5 and 7.
+pub(crate) fn check_inside(rows: &[u64], s: Set) -> Checked
+    ensures { λ r. ⌜ checkedReply r ≡ firstOf (insideCheck (masks (now (rows .entry))) (mask s)) passed ⌝ }
+{
+    then_set(check_graph(rows), rows, s)
+}
+
+// Refusals 1, 2, 4, 5 and 7.
+pub fn check_set(rows: &[u64], slack: usize, s: Set) -> Checked
+    ensures { λ r. ⌜ checkedReply r ≡ firstOf (setCheck (masks (now (rows .entry))) slack (mask s)) passed ⌝ }
+{
+    then_set(check_slack(rows, slack), rows, s)
 }

@@ -1,7 +1,7 @@
 // The graph: valid tables, refusals, k-plexes and maximal k-plexes, and the calls that judge a set.
 ghost use mathlib.Core.Path.{_≡_};
 ghost use Rattle.sets.specs.Words.{mask, masks};
-ghost use Rattle.judging.specs.Calls.{numberOf, valueOf, judgedReply, plexReply, maximalReply};
+ghost use Rattle.judging.specs.Calls.{numberOf, valueOf, loosenessFoundReply, loosenessReply, judgedReply, maximalReply};
 
 pub mod check;
 pub mod plex;
@@ -27,6 +27,12 @@ pub enum Refusal {
 pub enum Checked {
     Passed,
     Failed(Refusal),
+}
+
+// The answer to: how loose is this set?
+pub enum LoosenessFound {
+    Looseness(usize),
+    Refused(Refusal),
 }
 
 // The answer to a question about a set.
@@ -80,20 +86,16 @@ pub fn value(refusal: Refusal) -> usize
     }
 }
 
-// Is the set s a k-plex of the graph with these rows, for the slack k?
-// Refusals: 1, 2, 4, 5, 7. Cost: one pass over the table and one over the members.
-pub fn judge_plex(rows: &[u64], slack: usize, s: Set) -> Judged
-    ensures { λ r. ⌜ judgedReply r ≡ plexReply (masks (now (rows .entry))) slack (mask s) ⌝ }
+// How loose the set s is in the graph with these rows: the least k for which it is a k-plex, also one that no call takes as slack.
+// Refusals: 1, 4, 5, 7. Cost: one pass over the table and one over the members.
+pub fn looseness(rows: &[u64], s: Set) -> LoosenessFound
+    ensures { λ r. ⌜ loosenessFoundReply r ≡ loosenessReply (masks (now (rows .entry))) (mask s) ⌝ }
 {
-    let checked = check::check_set(rows, slack, s);
+    let checked = check::check_inside(rows, s);
     if let Checked::Failed(f) = checked {
-        return Judged::Refused(f);
+        return LoosenessFound::Refused(f);
     }
-    if plex::is_plex(rows, slack, s) {
-        Judged::Yes
-    } else {
-        Judged::No
-    }
+    LoosenessFound::Looseness(plex::looseness(rows, s))
 }
 
 // Is the set s a maximal k-plex of the graph with these rows, for the slack k?

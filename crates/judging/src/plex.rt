@@ -4,7 +4,7 @@ ghost use Prim.Native.Nat.{_<_, _≤_};
 ghost use lib.ListN.{length};
 ghost use Rattle.sets.specs.Words.{width, mask, masks};
 ghost use Rattle.judging.specs.Graph.{missing};
-ghost use Rattle.judging.specs.Plex.{plex, maximal, unblocked, extendable};
+ghost use Rattle.judging.specs.Plex.{maximal, looseness, unblocked, extendable};
 ghost use Rattle.judging.specs.Setting.{Inside, Judgeable};
 use sets::Set;
 
@@ -16,20 +16,22 @@ pub fn missing(rows: &[u64], s: Set, v: usize) -> usize
     sets::size(sets::minus(s, sets::get(rows, v)))
 }
 
-// Is s a k-plex?
-pub fn is_plex(rows: &[u64], k: usize, s: Set) -> bool
+// The most members of s that a member misses, itself counted; 0 for no members. s is a k-plex where this is at most k.
+pub fn looseness(rows: &[u64], s: Set) -> usize
     requires { ⌜ Inside (masks (now rows)) (mask s) ⌝ }
-    ensures { λ r. ⌜ r ≡ plex (masks (now (rows .entry))) k (mask s) ⌝ }
+    ensures { λ r. ⌜ r ≡ looseness (masks (now (rows .entry))) (mask s) ⌝ }
 {
+    let mut most = 0;
     let mut left = s;
     while !sets::is_empty(left) {
         let v = sets::lowest(left);
-        if k < missing(rows, s, v) {
-            return false;
-        }
         left = sets::rest(left, v);
+        let m = missing(rows, s, v);
+        if most < m {
+            most = m;
+        }
     }
-    true
+    most
 }
 
 // The vertices outside s that are adjacent to each member of s that misses k or more of s.
@@ -70,7 +72,7 @@ pub(crate) fn is_maximal(rows: &[u64], k: usize, s: Set) -> bool
     requires { ⌜ Judgeable (masks (now rows)) (mask s) ⌝ }
     ensures { λ r. ⌜ r ≡ maximal (masks (now (rows .entry))) k (mask s) ⌝ }
 {
-    if !is_plex(rows, k, s) {
+    if k < looseness(rows, s) {
         return false;
     }
     !is_extendable(rows, k, s, unblocked(rows, k, s))

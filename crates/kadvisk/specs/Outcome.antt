@@ -1,7 +1,7 @@
 -- What the exported calls answer, for every input: the replies of the layers below as plain structs.
 --
 --   outcome found reply     the number, the value and what was found; of a refusal nothing is found, and that is 0
---   yesNo, itself, nothing  what is found as a number: 1 for yes and 0 for no; a set's mask or a bound; 0 where the value says all
+--   yesNo, itself, nothing  what is found as a number: 1 for yes and 0 for no; a looseness, a set's mask or a bound; 0 where the value says all
 --   readOutcome reply       the same of a sheet that is read, with its n, k and q; of a refusal these are 0
 --   ListOutcome, ..         the outcome and the lent buffer at exit, as the promise of the call that lists, that reads a sheet, or that writes one
 use Prim.Native.Nat.{ℕ}

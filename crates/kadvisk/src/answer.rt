@@ -1,6 +1,6 @@
 // The answers of the layers as outcomes.
 ghost use mathlib.Core.Path.{_≡_};
-ghost use Rattle.judging.specs.Calls.{judgedReply};
+ghost use Rattle.judging.specs.Calls.{loosenessFoundReply, judgedReply};
 ghost use Rattle.bounds.specs.Calls.{coreFoundReply, reachFoundReply};
 ghost use Rattle.bounds.specs.BoundCalls.{boundFoundReply};
 ghost use Rattle.search.specs.Calls.{listFoundReply};
@@ -15,6 +15,7 @@ use bounds::BoundFound;
 use bounds::CoreFound;
 use bounds::ReachFound;
 use judging::Judged;
+use judging::LoosenessFound;
 use judging::Refusal;
 use largest::LargestFound;
 use search::ListFound;
@@ -52,6 +53,15 @@ fn refused(f: Refusal) -> Outcome
         number,
         value,
         found: 0,
+    }
+}
+
+pub fn loose(answer: LoosenessFound) -> Outcome
+    ensures { λ r. ⌜ r ≡ outcome itself (loosenessFoundReply answer) ⌝ }
+{
+    match answer {
+        LoosenessFound::Looseness(m) => found(m as u64),
+        LoosenessFound::Refused(f) => refused(f),
     }
 }
 

@@ -3,7 +3,7 @@
 ghost use mathlib.Core.Path.{_≡_};
 ghost use Rattle.sets.specs.Words.{masks};
 ghost use Rattle.judging.specs.Request.{request};
-ghost use Rattle.judging.specs.Calls.{plexReply, maximalReply};
+ghost use Rattle.judging.specs.Calls.{loosenessReply, maximalReply};
 ghost use Rattle.bounds.specs.Calls.{coreReply, reachReply};
 ghost use Rattle.bounds.specs.BoundCalls.{firstBoundReply, secondBoundReply};
 ghost use Rattle.largest.specs.Calls.{largestReply};
@@ -14,8 +14,8 @@ mod answer;
 use judging::Request;
 use search::Cuts;
 
-// The outcome of a call. `number` is 0 for a success and else document 01's number of the refusal. `found` is what a question found: 1 or 0 for yes or
-// no, a set's mask, a bound; it is 0 with a refusal, and where `value` says all. `value` and `found` together are the size and the mask of a largest k-plex.
+// The outcome of a call. `number` is 0 for a success and else document 01's number of the refusal. `found` is what a question found: a looseness, 1 or 0
+// for yes or no, a set's mask, a bound; it is 0 with a refusal, and where `value` says all. `value` and `found` together are the size and the mask of a largest k-plex.
 #[repr(C)]
 pub struct Outcome {
     pub number: usize,
@@ -33,13 +33,14 @@ pub struct ReadOutcome {
     pub floor: usize,
 }
 
-// Is the set of the mask s a k-plex of the graph with these rows? Found: 1 for yes, 0 for no. Refusals: 1, 2, 4, 5, 7.
+// How loose the set of the mask s is in the graph with these rows. Found: the least k for which it is a k-plex, also one above the limit of slack; 0 for
+// no members. Refusals: 1, 4, 5, 7.
 #[no_mangle]
-pub extern "C" fn kadvisk_is_plex(rows: &[u64], slack: usize, s: u64) -> Outcome
-    ensures { λ r. ⌜ r ≡ outcome yesNo (plexReply (masks (now (rows .entry))) slack s) ⌝ }
+pub extern "C" fn kadvisk_looseness(rows: &[u64], s: u64) -> Outcome
+    ensures { λ r. ⌜ r ≡ outcome itself (loosenessReply (masks (now (rows .entry))) s) ⌝ }
 {
-    let judged = judging::judge_plex(rows, slack, sets::of_word(s));
-    answer::judged(judged)
+    let found = judging::looseness(rows, sets::of_word(s));
+    answer::loose(found)
 }
 
 // Is the set of the mask s a maximal k-plex of the graph with these rows? Found: 1 for yes, 0 for no. Refusals: 1, 2, 4, 5, 7.

@@ -1,14 +1,14 @@
 -- Laws of the call for the largest k-plex: from the outcome of the checks and from what the search found to what the call answers. The forced set is looked
--- at last, as a k-plex.
-use Prim.Native.Nat.{ℕ}
+-- at last: how loose it is.
+use Prim.Native.Nat.{ℕ, _≤_, _<_}
 use native.Mathlib.Omega.{arith}
-use mathlib.Core.Path.{_≡_, sym, ap, ap₂, _∙_}
-use mathlib.Core.Bool.{true, false, not}
+use mathlib.Core.Path.{_≡_, sym, ap₂, _∙_}
 use mathlib.Core.List.{List, [], _∷_}
+use borrow.Author.Tests.{lt-ltb, le-ltb}
 use Rattle.sets.specs.Set.{size}
-use Rattle.sets.specs.RangeLaws.{is-true, true-holds}
-use Rattle.judging.specs.Plex.{plex}
-use Rattle.judging.specs.PlexLaws.{plex-holds, plex-test, hereditary}
+use Rattle.judging.specs.Plex.{looseness}
+use Rattle.judging.specs.PlexLaws.{hereditary}
+use Rattle.judging.specs.LoosenessLaws.{plex-loose, loose-plex}
 use Rattle.judging.specs.Request.{request}
 use Rattle.judging.specs.Refusal.{refused, answered, firstOf, setCause}
 use Rattle.judging.specs.Calls.{refusal, passed, checkedReply, slackCheck, setCheck}
@@ -35,8 +35,8 @@ set-searchable g k f e =
       floor = omega arith;
     }
 
-pub set-forced : (g : List ℕ) (k f : ℕ) → firstOf (setCheck g k f) passed ≡ passed → plex g k f ≡ true → Forced g k f
-set-forced g k f e p = record { below = set-checked g k f e .inside .below; plexed = plex-holds g k f (true-holds (plex g k f) p) }
+pub set-forced : (g : List ℕ) (k f : ℕ) → firstOf (setCheck g k f) passed ≡ passed → looseness g f ≤ k → Forced g k f
+set-forced g k f e h = record { below = set-checked g k f e .inside .below; plexed = loose-plex g k f h }
 
 module _ (g : List ℕ) (k f : ℕ) where
   pub reply-refused : {r : Checked} {x : Refusal} → checkedReply r ≡ firstOf (setCheck g k f) passed → r ≡ Failed x → largestReply g k f ≡ refusal x
@@ -48,12 +48,12 @@ module _ (g : List ℕ) (k f : ℕ) where
   unfolding largestReply forcedCheck
   only-forced e = first-append (setCheck g k f) _ _ ∙ first-passed (setCheck g k f) _ e
 
-  pub reply-forced : firstOf (setCheck g k f) passed ≡ passed → plex g k f ≡ false → largestReply g k f ≡ refused 11 0
+  pub reply-forced : firstOf (setCheck g k f) passed ≡ passed → k < looseness g f → largestReply g k f ≡ refused 11 0
   unfolding forcedCause
-  reply-forced e n = only-forced e ∙ first-holds (forcedCause g k f) [] _ (ap not n)
+  reply-forced e h = only-forced e ∙ first-holds (forcedCause g k f) [] _ (lt-ltb k (looseness g f) h)
 
 pub reply-found : {g : List ℕ} {k f s : ℕ} → firstOf (setCheck g k f) passed ≡ passed → Largest g k f s → largestReply g k f ≡ answered (size s) s
 unfolding forcedCause firstOf
 reply-found {g} {k} {f} {s} e h =
-    let p = is-true (plex g k f) (plex-test g k f (hereditary g k f s (h .holds .lower) (h .holds .plexed))) in
-    only-forced g k f e ∙ first-skips (forcedCause g k f) [] _ (ap not (sym p)) ∙ ap₂ answered (largest-size h) (largest-mask h)
+    let few = plex-loose g k f (hereditary g k f s (h .holds .lower) (h .holds .plexed)) in
+    only-forced g k f e ∙ first-skips (forcedCause g k f) [] _ (le-ltb k (looseness g f) few) ∙ ap₂ answered (largest-size h) (largest-mask h)

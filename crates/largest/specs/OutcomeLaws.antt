@@ -5,12 +5,12 @@ use native.Mathlib.Omega.{arith}
 use mathlib.Core.Path.{_≡_, sym, _∙_, subst}
 use mathlib.Core.List.{List, [], _∷_}
 use lib.ListN.{length}
-use borrow.Author.Tests.{not-false}
+use borrow.Author.Tests.{ltb-false}
 use Rattle.sets.specs.Set.{size}
-use Rattle.sets.specs.RangeLaws.{Mem, true-holds}
+use Rattle.sets.specs.RangeLaws.{Mem}
 use Rattle.judging.specs.Request.{request}
-use Rattle.judging.specs.Plex.{plex, Plex, Maximal}
-use Rattle.judging.specs.PlexLaws.{plex-holds}
+use Rattle.judging.specs.Plex.{looseness, Plex, Maximal}
+use Rattle.judging.specs.LoosenessLaws.{loose-plex}
 use Rattle.judging.specs.Refusal.{answered, firstOf}
 use Rattle.judging.specs.Calls.{passed, setCheck}
 use Rattle.judging.specs.RefusalLaws.{answered-passed, answered-value, answered-found, passed-front, passed-back, passed-head, set-checked}
@@ -38,7 +38,7 @@ module _ (g : List ℕ) (k f : ℕ) {m s : ℕ} (e : largestReply g k f ≡ answ
   unfolding forcedCheck forcedCause
   forced-plex =
       let last = passed-head (forcedCause g k f) [] (passed-back (setCheck g k f) (forcedCause g k f ∷ []) none-holds) in
-      plex-holds g k f (true-holds (plex g k f) (not-false (plex g k f) last))
+      loose-plex g k f (ltb-false k (looseness g f) last)
 
   -- ---- what is answered
 

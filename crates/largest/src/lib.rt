@@ -88,7 +88,7 @@ pub fn largest(rows: &[u64], slack: usize, forced: Set) -> LargestFound
     if let Checked::Failed(f) = checked {
         return LargestFound::Refused(f);
     }
-    if !judging::plex::is_plex(rows, slack, forced) {
+    if slack < judging::plex::looseness(rows, forced) {
         return LargestFound::Refused(Refusal::Forced);
     }
     LargestFound::Found(climb_apart(rows, slack, forced))

@@ -1,4 +1,5 @@
--- The starred edges of document 01, "Edges to run", as one table that the checker computes: what the definitions give, beside what the document says.
+-- The starred edges of document 01, "Edges to run", and those of looseness (document 02, card 2), as one table that the checker computes: what the
+-- definitions give, beside what the document says.
 use Prim.Native.Nat.{ℕ}
 use mathlib.Core.Bool.{Bool, true, false, _&&_}
 use mathlib.Core.List.{List, [], _∷_}
@@ -9,10 +10,10 @@ use Rattle.sets.specs.Set.{bit, has, subset, with, minus, setOf, members}
 use Rattle.sets.specs.Graph.{row}
 use Rattle.judging.specs.Request.{request}
 use Rattle.judging.specs.Graph.{adjacent, degree, missing}
-use Rattle.judging.specs.Plex.{plex, maximal}
+use Rattle.judging.specs.Plex.{plex, maximal, looseness}
 use Rattle.judging.specs.Refusal.{Reply, refused, answered, firstOf, outside, vertexCause, slackCause, floorCause}
 use Rattle.judging.specs.Refusal.{badRow, oneWay, lowestRow, rowCause, edgeCause, graphCauses, setCause, vertexOutCause}
-use Rattle.judging.specs.Calls.{graphCheck, slackCheck, requestCheck, setCheck}
+use Rattle.judging.specs.Calls.{graphCheck, slackCheck, requestCheck, insideCheck, setCheck, loosenessReply}
 use Rattle.bounds.specs.Core.{dense, core}
 use Rattle.bounds.specs.Reach.{reach}
 use Rattle.bounds.specs.Bound.{support, usable, ordered, supports, packable, firstBound, lesser, least, tightest, kept, secondBound, largest}
@@ -76,8 +77,14 @@ edges =
     ∷ edge (shown (firstBoundReply seven 2 0x07 0x78 3)) (0 ∷ 0 ∷ 8 ∷ [])
     ∷ edge (shown (secondBoundReply seven 2 0x07 0x78 3)) (0 ∷ 0 ∷ 6 ∷ [])
     ∷ edge (largest seven 2 0x07 0x78 3 ∷ []) (5 ∷ [])
+    ∷ edge (shown (loosenessReply ring5 0)) (0 ∷ 0 ∷ 0 ∷ [])
+    ∷ edge (shown (loosenessReply ring5 0x10)) (0 ∷ 0 ∷ 1 ∷ [])
+    ∷ edge (shown (loosenessReply ring5 0x07)) (0 ∷ 0 ∷ 2 ∷ [])
+    ∷ edge (shown (loosenessReply ring5 0x1F)) (0 ∷ 0 ∷ 3 ∷ [])
+    ∷ edge (shown (loosenessReply apart3 0x7)) (0 ∷ 0 ∷ 3 ∷ [])
+    ∷ edge (shown (loosenessReply ring5 0x20)) (7 ∷ 0 ∷ [])
     ∷ []
 
 pub edges-hold : T (hold edges)
-unfolding hold edges shown agree ring5 ring4 apart3 single path4 seven from range first all any keep total greatest joined bit has ones onesIn subset with minus setOf members row adjacent degree missing plex maximal firstOf outside vertexCause slackCause floorCause badRow oneWay lowestRow rowCause edgeCause graphCauses setCause vertexOutCause graphCheck slackCheck requestCheck setCheck dense core reach support usable ordered supports packable firstBound lesser least tightest kept secondBound largest coreReply reachCheck reachReply overlap misplaced boundCause boundCheck firstBoundReply secondBoundReply listed listing
+unfolding hold edges shown agree ring5 ring4 apart3 single path4 seven from range first all any keep total greatest joined bit has ones onesIn subset with minus setOf members row adjacent degree missing plex maximal looseness firstOf outside vertexCause slackCause floorCause badRow oneWay lowestRow rowCause edgeCause graphCauses setCause vertexOutCause graphCheck slackCheck requestCheck insideCheck setCheck loosenessReply dense core reach support usable ordered supports packable firstBound lesser least tightest kept secondBound largest coreReply reachCheck reachReply overlap misplaced boundCause boundCheck firstBoundReply secondBoundReply listed listing
 edges-hold = tt

@@ -1,7 +1,7 @@
 -- A survey of a set, member by member.
 --
 --   Finding g k a left most worst free   what is found so far, with the members of left still to come
-use Prim.Native.Nat.{ℕ, _^_, _<_, _≤_, max}
+use Prim.Native.Nat.{ℕ, _^_, _<_, _≤_}
 use native.Mathlib.Omega.{arith}
 use mathlib.Core.Path.{_≡_, sym}
 use mathlib.Core.List.{List}
@@ -10,19 +10,20 @@ use lib.ListN.{length}
 use Rattle.sets.specs.Set.{In, minus, without, full}
 use Rattle.sets.specs.Words.{Lowest}
 use Rattle.sets.specs.Graph.{row}
-use Rattle.sets.specs.WalkLaws.{Walked, walk-none, walk-next, walk-map, walk-all, walk-member}
+use Rattle.sets.specs.WalkLaws.{walk-member}
 use Rattle.judging.specs.Graph.{missing}
 use Rattle.judging.specs.Plex.{Plex}
+use Rattle.judging.specs.LoosenessLaws.{Loosening, loosening-none, loosening-same, loosening-more, loosening-all, loose-plex}
 use Rattle.judging.specs.NarrowLaws.{Narrowed, narrowed-none, narrowed-next, narrowed-unblocked}
 use Rattle.search.specs.Survey.{Finds}
 
 pub record Finding (g : List ℕ) (k a left most worst free : ℕ) : Type 0 where
   pub narrowed : Narrowed g k a a (minus (full (length g)) a) left free
-  pub bounded : Walked (λ v. missing g a v ≤ max k most) a left
+  pub loosening : Loosening g a left most
   pub reached : 0 < most → In worst a × (missing g a worst ≡ most)
 
 pub finding-none : {g : List ℕ} {k a worst : ℕ} → a < 2 ^ length g → Finding g k a a 0 worst (minus (full (length g)) a)
-finding-none b = record { narrowed = narrowed-none b; bounded = walk-none; reached = λ l. absurd (omega arith) }
+finding-none b = record { narrowed = narrowed-none b; loosening = loosening-none b; reached = λ l. absurd (omega arith) }
 
 -- one member more: v misses n, and what is free is narrowed to p by its row b
 module _ {g : List ℕ} {k a left most worst free v rest n b p : ℕ} (h : Finding g k a left most worst free) (l : Lowest left v)
@@ -31,7 +32,7 @@ module _ {g : List ℕ} {k a left most worst free v rest n b p : ℕ} (h : Findi
   finding-same few =
       record {
         narrowed = narrowed-next (h .narrowed) l e z y f;
-        bounded = walk-next v e (h .bounded) (omega arith);
+        loosening = loosening-same (h .loosening) l e z few;
         reached = h .reached;
       }
 
@@ -39,14 +40,14 @@ module _ {g : List ℕ} {k a left most worst free v rest n b p : ℕ} (h : Findi
   finding-more many =
       record {
         narrowed = narrowed-next (h .narrowed) l e z y f;
-        bounded = walk-next v e (walk-map (λ u d. omega arith) (h .bounded)) (omega arith);
-        reached = λ _. (walk-member a (h .bounded .part) l, sym z);
+        loosening = loosening-more (h .loosening) l e z many;
+        reached = λ _. (walk-member a (h .loosening .bounded .part) l, sym z);
       }
 
 pub finding-all : {g : List ℕ} {k a left most worst free : ℕ} → left ≡ 0 → Finding g k a left most worst free → Finds g k a most worst free
 finding-all z h =
-    record { bounded = walk-all z (h .bounded); reached = h .reached; opened = narrowed-unblocked z (h .narrowed) }
+    record { loose = loosening-all z (h .loosening); reached = h .reached; opened = narrowed-unblocked z (h .narrowed) }
 
--- where no member misses more than k the set is a plex
+-- where it is no looser than k the set is a plex
 pub finds-plex : {g : List ℕ} {k a most worst free : ℕ} → Finds g k a most worst free → most ≤ k → Plex g k a
-finds-plex h l v lv e = omega (arith, h .bounded v e)
+finds-plex {g} {k} {a} h l = loose-plex g k a (omega (arith, h .loose))

@@ -7,7 +7,7 @@ ghost use Rattle.judging.specs.Setting.{Inside};
 ghost use Rattle.search.specs.Survey.{Finds};
 use sets::Set;
 
-// What the pass finds: `most` is the largest number that a member misses, `worst` such a member,
+// What the pass finds: `most` is the looseness of the set, `worst` a member that misses so many,
 // and `free` the vertices outside that each member that misses k or more is adjacent to.
 pub struct Findings {
     pub most: usize,
