@@ -52,8 +52,9 @@ typedef struct {
     size_t floor;    /* q */
 } kadvisk_read_outcome;
 
-/* Is the set s a k-plex? Found: 1 for yes, 0 for no. Refusals, in this order: 1, 2, 4, 5, 7. */
-kadvisk_outcome kadvisk_is_plex(const uint64_t *rows, size_t n, size_t slack, uint64_t s);
+/* How loose is the set s? Found: the least k for which it is a k-plex, also one above the limit of slack: the most members that a member misses, itself
+ * counted, and 0 for the empty set. So s is a k-plex where found is at most k. Refusals, in this order: 1, 4, 5, 7. */
+kadvisk_outcome kadvisk_looseness(const uint64_t *rows, size_t n, uint64_t s);
 
 /* Is the set s a maximal k-plex? Found: 1 for yes, 0 for no. Refusals, in this order: 1, 2, 4, 5, 7. */
 kadvisk_outcome kadvisk_is_maximal(const uint64_t *rows, size_t n, size_t slack, uint64_t s);

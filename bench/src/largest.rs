@@ -2,7 +2,7 @@
 use crate::rows::{Row, ROWS};
 use crate::{apart, turns};
 use outside::instances::Rng;
-use outside::plain::is_plex;
+use outside::plain::looseness;
 use std::time::Duration;
 
 /// What is timed, in the order of the columns: the library, and the two that it is held against.
@@ -53,7 +53,7 @@ fn forced_sets(rows: &[u64], k: usize) -> Vec<u64> {
     let mut order: Vec<usize> = (0..n).collect();
     (0..n).for_each(|i| order.swap(i, i + rng.below(n - i)));
     let triples = (0..n).flat_map(|c| (0..c).flat_map(move |b| (0..b).map(move |a| [a, b, c])));
-    let three = triples.map(|places| places.iter().fold(0, |set, &at| set | 1 << order[at])).find(|&set| is_plex(rows, k, set));
+    let three = triples.map(|places| places.iter().fold(0, |set, &at| set | 1 << order[at])).find(|&set| looseness(rows, set) <= k);
     [Some(0), Some(1 << order[0]), three].into_iter().flatten().collect()
 }
 

@@ -14,8 +14,8 @@ int main(void) {
     uint64_t slots[8], rows[64];
     uint8_t text[1095];
 
-    printf("is 07 a 2-plex: %" PRIu64 "\n", kadvisk_is_plex(ring, 5, 2, 0x07).found);
-    printf("is 07 a maximal one: %" PRIu64 "\n", kadvisk_is_maximal(ring, 5, 2, 0x07).found);
+    printf("07 is a k-plex from k = %" PRIu64 " on\n", kadvisk_looseness(ring, 5, 0x07).found);
+    printf("is 07 a maximal 2-plex: %" PRIu64 "\n", kadvisk_is_maximal(ring, 5, 2, 0x07).found);
     printf("core at floor 4: %02" PRIX64 "\n", kadvisk_core(ring, 5, 2, 4).found);
     printf("reach of 0: %02" PRIX64 "\n", kadvisk_reach(ring, 5, 0).found);
 

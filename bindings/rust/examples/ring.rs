@@ -2,7 +2,7 @@
 
 fn main() -> Result<(), kadvisk::Refusal> {
     let ring = [0x12, 0x05, 0x0A, 0x14, 0x09];
-    println!("is 07 a 2-plex: {}", kadvisk::is_plex(&ring, 2, 0x07)?);
+    println!("07 is a k-plex from k = {} on", kadvisk::looseness(&ring, 0x07)?);
     println!("core at floor 4: {:02X}", kadvisk::core(&ring, 2, 4)?);
     for mask in kadvisk::list_all(&ring, 2, 3)? {
         println!("{mask:02X}");

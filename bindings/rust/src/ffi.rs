@@ -22,7 +22,7 @@ pub struct ReadOutcome {
 }
 
 extern "C" {
-    pub fn kadvisk_is_plex(rows: *const u64, n: usize, slack: usize, s: u64) -> Outcome;
+    pub fn kadvisk_looseness(rows: *const u64, n: usize, s: u64) -> Outcome;
     pub fn kadvisk_is_maximal(rows: *const u64, n: usize, slack: usize, s: u64) -> Outcome;
     pub fn kadvisk_core(rows: *const u64, n: usize, slack: usize, floor: usize) -> Outcome;
     pub fn kadvisk_reach(rows: *const u64, n: usize, v: usize) -> Outcome;

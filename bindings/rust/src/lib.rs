@@ -181,11 +181,19 @@ fn valued(outcome: ffi::Outcome) -> Result<usize, Refusal> {
 // SAFETY, for each call below: a pointer and a length of one slice are passed, which is lent for the call, and the calls keep neither. They are
 // proved to read and write within the slices, and ask nothing more of their caller.
 
-/// Is the set `s` a k-plex? The empty set is one.
+/// How loose the set `s` is: the least k for which it is a k-plex, also one above the limit of slack. That is the most members that a member misses,
+/// itself counted, and 0 for the empty set. So `s` is a k-plex where `looseness(rows, s)? <= k`.
 ///
-/// Refusals, in this order: 1, 2, 4, 5, 7.
-pub fn is_plex(rows: &[u64], slack: usize, s: u64) -> Result<bool, Refusal> {
-    found(unsafe { ffi::kadvisk_is_plex(rows.as_ptr(), rows.len(), slack, s) }).map(|x| x == 1)
+/// ```
+/// let ring = [0x12, 0x05, 0x0A, 0x14, 0x09];
+/// assert_eq!(kadvisk::looseness(&ring, 0x07)?, 2);
+/// assert_eq!(kadvisk::looseness(&ring, 0x1F)?, 3);
+/// # Ok::<(), kadvisk::Refusal>(())
+/// ```
+///
+/// Refusals, in this order: 1, 4, 5, 7.
+pub fn looseness(rows: &[u64], s: u64) -> Result<usize, Refusal> {
+    found(unsafe { ffi::kadvisk_looseness(rows.as_ptr(), rows.len(), s) }).map(|x| x as usize)
 }
 
 /// Is the set `s` a maximal k-plex, one that no other k-plex of the graph contains?

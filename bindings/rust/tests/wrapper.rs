@@ -6,8 +6,10 @@ const LIST: [u64; 5] = [0x07, 0x0E, 0x13, 0x19, 0x1C];
 
 #[test]
 fn questions() {
-    assert_eq!(kadvisk::is_plex(&RING, 2, 0x07), Ok(true));
-    assert_eq!(kadvisk::is_plex(&RING, 1, 0x07), Ok(false));
+    assert_eq!(kadvisk::looseness(&RING, 0x07), Ok(2));
+    assert_eq!(kadvisk::looseness(&RING, 0), Ok(0));
+    assert_eq!(kadvisk::looseness(&[0; 64], u64::MAX), Ok(64));
+    assert_eq!(kadvisk::looseness(&RING, 0x20), Err(Refusal::Outside));
     assert_eq!(kadvisk::is_maximal(&RING, 2, 0x07), Ok(true));
     assert_eq!(kadvisk::is_maximal(&RING, 2, 0x03), Ok(false));
     assert_eq!(kadvisk::core(&RING, 2, 4), Ok(0x1F));

@@ -6,31 +6,35 @@ use sets::Set;
 // There are graphs of at most 16 vertices here.
 const MOST_VERTICES: usize = 16;
 
-// Is v a member of s that is adjacent to fewer than |s| - k members?
-fn fails(rows: &[u64], k: usize, s: Set, v: usize) -> bool {
-    if sets::WIDTH < k {
-        return false;
-    }
+// The least k for which the member v of s is adjacent to at least |s| - k members; 0 where it is none.
+fn lacks(rows: &[u64], s: Set, v: usize) -> usize {
     if sets::WIDTH <= v {
-        return false;
+        return 0;
     }
     if !sets::has(s, v) {
-        return false;
+        return 0;
     }
-    sets::size(sets::meet(s, words::at(rows, v))) + k < sets::size(s)
+    let degree = sets::size(sets::meet(s, words::at(rows, v)));
+    let all = sets::size(s);
+    if all < degree {
+        return 0;
+    }
+    all - degree
 }
 
-// Is s a k-plex?
-fn is_plex(rows: &[u64], k: usize, s: Set) -> bool {
+// The least k for which s is a k-plex.
+pub fn looseness(rows: &[u64], s: Set) -> usize {
     let n = sets::count(rows);
+    let mut least = 0;
     let mut v = 0;
     while v < n {
-        if fails(rows, k, s, v) {
-            return false;
+        let k = lacks(rows, s, v);
+        if least < k {
+            least = k;
         }
         v += 1;
     }
-    true
+    least
 }
 
 // Is x outside the k-plex s, and is s with x one too?
@@ -41,7 +45,7 @@ fn extends(rows: &[u64], k: usize, s: Set, x: usize) -> bool {
     if sets::has(s, x) {
         return false;
     }
-    is_plex(rows, k, sets::with(s, x))
+    looseness(rows, sets::with(s, x)) <= k
 }
 
 // Is there a vertex that extends the k-plex s? Every vertex is tried.
@@ -59,7 +63,7 @@ fn is_extendable(rows: &[u64], k: usize, s: Set) -> bool {
 
 // Is s a maximal k-plex of at least q members?
 fn is_listed(rows: &[u64], k: usize, q: usize, s: Set) -> bool {
-    q <= sets::size(s) && is_plex(rows, k, s) && !is_extendable(rows, k, s)
+    q <= sets::size(s) && looseness(rows, s) <= k && !is_extendable(rows, k, s)
 }
 
 // How many masks the graph has.
@@ -110,7 +114,7 @@ pub fn keep_large(slots: &mut [u64], m: usize, q: usize) -> usize {
 
 // Is s a k-plex that holds the forced vertices and is larger than `best`?
 fn is_larger(rows: &[u64], k: usize, forced: Set, best: Set, s: Set) -> bool {
-    sets::size(best) < sets::size(s) && sets::within(forced, s) && is_plex(rows, k, s)
+    sets::size(best) < sets::size(s) && sets::within(forced, s) && looseness(rows, s) <= k
 }
 
 // The largest k-plex that holds the forced vertices, and of those of its size the first in rising order; empty where none holds them.

@@ -3,6 +3,7 @@ ghost use Prim.Native.Nat.{_≤_};
 use crate::all_sets;
 use crate::graphs;
 use crate::largest_plex;
+use crate::looseness;
 use crate::refusals;
 use crate::sheet;
 use crate::tally;
@@ -15,8 +16,8 @@ use search::ListFound;
 
 const MOST_VERTICES: usize = 16;
 
-// The most vertices of which every set is forced.
-const MOST_FORCED: usize = 10;
+// The most vertices where every set is asked for: forced, or how loose it is.
+const MOST_ASKED: usize = 10;
 
 const MOST_SLACK: usize = 32;
 
@@ -129,6 +130,7 @@ fn slacks(start: Tally, rows: &[u64], masks: &mut [u64], slots: &mut [u64]) -> T
 pub enum Call {
     List,
     Largest,
+    Looseness,
 }
 
 // The graph of the family with a vertex for each row.
@@ -137,6 +139,7 @@ fn built(cases: Tally, call: Call, rows: &mut [u64], family: usize, variant: usi
     match call {
         Call::List => graph(cases, rows),
         Call::Largest => largest_plex::graph(cases, rows),
+        Call::Looseness => looseness::graph(cases, rows),
     }
 }
 
@@ -158,15 +161,16 @@ fn variants(start: Tally, call: Call, family: usize, n: usize, most: usize) -> T
     cases
 }
 
-// For the largest every set is forced, so the graphs are smaller.
+// Where every set is asked for the graphs are smaller.
 fn most_vertices(call: Call) -> usize {
     match call {
         Call::List => MOST_VERTICES,
-        Call::Largest => MOST_FORCED,
+        Call::Largest => MOST_ASKED,
+        Call::Looseness => MOST_ASKED,
     }
 }
 
-// The graphs of a family with 1 to 16 vertices, or to 10 for the largest, in so many variants.
+// The graphs of a family with 1 to 16 vertices, or to 10 where every set is asked for, in so many variants.
 pub fn group(start: Tally, call: Call, family: usize, most: usize) -> Tally {
     let vertices = most_vertices(call);
     let mut cases = start;

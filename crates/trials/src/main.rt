@@ -1,11 +1,12 @@
-// Runs the edge cases of documents 01 and 02 that are not proved, and compares with trying all sets: the lists for graphs of 1 to 16 vertices, and the
-// largest k-plex for graphs of 1 to 10 with each set forced. Prints a line for each group: how many cases it has, and how many of them differ. Where an
+// Runs the edge cases of documents 01 and 02 that are not proved, and compares with trying all sets: the lists for graphs of 1 to 16 vertices, for graphs
+// of 1 to 10 the largest k-plex with each set forced, and how loose each set is. Prints a line for each group: how many cases it has, and how many of them differ. Where an
 // answer differs, its graph is printed as a sheet.
 mod all_sets;
 mod compare;
 mod graphs;
 mod largest_plex;
 mod lists;
+mod looseness;
 mod refusals;
 mod sheet;
 mod tally;
@@ -25,7 +26,7 @@ fn list_cases() {
 }
 
 fn refusal_cases() {
-    tally::print(b"refusals of the judges", refusals::judged());
+    tally::print(b"refusals of judging maximality", refusals::judged());
     tally::print(b"refusals of core and reach", refusals::found());
     tally::print(b"refusals of the bounds", refusals::bounded());
 }
@@ -33,6 +34,11 @@ fn refusal_cases() {
 fn sheet_cases() {
     tally::print(b"sheets read", sheet::read());
     tally::print(b"sheets written", sheet::written());
+}
+
+fn looseness_cases() {
+    tally::print(b"looseness", looseness::found());
+    tally::print(b"refusals of looseness", looseness::refused());
 }
 
 fn largest_cases() {
@@ -57,22 +63,24 @@ fn comparisons() {
     tally::print(b"pseudo-random graphs", listed(graphs::RANDOM, RANDOM));
 }
 
-// The largest k-plexes of the same graphs, where they have at most 10 vertices.
-fn largest_compared() -> Tally {
-    let mut cases = compare::group(tally::none(), Call::Largest, graphs::COMPLETE, 1);
-    cases = compare::group(cases, Call::Largest, graphs::RING, 1);
-    cases = compare::group(cases, Call::Largest, graphs::PATH, 1);
-    cases = compare::group(cases, Call::Largest, graphs::STAR, 1);
-    cases = compare::group(cases, Call::Largest, graphs::MULTIPARTITE, 4);
-    cases = compare::group(cases, Call::Largest, graphs::UNION, 8);
-    compare::group(cases, Call::Largest, graphs::RANDOM, RANDOM)
+// Another call on the same graphs, where they have at most 10 vertices.
+fn every_set(call: Call) -> Tally {
+    let mut cases = compare::group(tally::none(), call, graphs::COMPLETE, 1);
+    cases = compare::group(cases, call, graphs::RING, 1);
+    cases = compare::group(cases, call, graphs::PATH, 1);
+    cases = compare::group(cases, call, graphs::STAR, 1);
+    cases = compare::group(cases, call, graphs::MULTIPARTITE, 4);
+    cases = compare::group(cases, call, graphs::UNION, 8);
+    compare::group(cases, call, graphs::RANDOM, RANDOM)
 }
 
 fn main() {
     list_cases();
     refusal_cases();
     sheet_cases();
+    looseness_cases();
     largest_cases();
     comparisons();
-    tally::print(b"largest against all sets", largest_compared());
+    tally::print(b"largest against all sets", every_set(Call::Largest));
+    tally::print(b"looseness against the definition", every_set(Call::Looseness));
 }

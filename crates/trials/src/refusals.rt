@@ -1,4 +1,4 @@
-// Refusals of the calls that judge a set, find the core or a reach, and bound: each with the later causes too.
+// Refusals of the calls that judge maximality, find the core or a reach, and bound: each with the later causes too.
 use crate::graphs;
 use crate::graphs::NOWHERE;
 use crate::tally;
@@ -43,13 +43,12 @@ fn bound_gives(found: BoundFound, number: usize, value: usize) -> bool {
     }
 }
 
-// Is the set of the mask judged so, as a plex and as a maximal plex?
+// Is the set of the mask judged so, as a maximal plex?
 fn judge(own: usize, one: usize, k: usize, mask: u64, number: usize, value: usize) -> bool {
     let s = sets::of_word(mask);
     let mut rows = [0u64; 5 * sets::WORDS];
     graphs::build_faulty(&mut rows, own, NOWHERE, one);
-    judge_gives(judging::judge_plex(&rows, k, s), number, value)
-        & judge_gives(judging::judge_maximal(&rows, k, s), number, value)
+    judge_gives(judging::judge_maximal(&rows, k, s), number, value)
 }
 
 fn core(own: usize, one: usize, k: usize, q: usize, number: usize, value: usize) -> bool {
@@ -91,8 +90,7 @@ fn bound(
 fn no_rows() -> bool {
     let rows = [0u64; 0];
     let s = sets::of_word(32);
-    judge_gives(judging::judge_plex(&rows, 0, s), 1, 0)
-        & judge_gives(judging::judge_maximal(&rows, 0, s), 1, 0)
+    judge_gives(judging::judge_maximal(&rows, 0, s), 1, 0)
         & core_gives(
             bounds::find_core(
                 &rows,

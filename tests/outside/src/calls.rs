@@ -1,8 +1,8 @@
 //! The exported calls on slices, with the plain numbers of their outcomes.
 use kadvisk::ffi::{self, Outcome, ReadOutcome};
 
-pub fn is_plex(rows: &[u64], k: usize, s: u64) -> Outcome {
-    unsafe { ffi::kadvisk_is_plex(rows.as_ptr(), rows.len(), k, s) }
+pub fn looseness(rows: &[u64], s: u64) -> Outcome {
+    unsafe { ffi::kadvisk_looseness(rows.as_ptr(), rows.len(), s) }
 }
 
 pub fn is_maximal(rows: &[u64], k: usize, s: u64) -> Outcome {

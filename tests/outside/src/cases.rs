@@ -46,7 +46,7 @@ pub fn grown_plex(rng: &mut Rng, rows: &[u64], k: usize) -> u64 {
     let mut s = 0;
     for _ in 0..rng.below(3 * rows.len() + 1) {
         let v = rng.below(rows.len());
-        if crate::plain::is_plex(rows, k, s | 1 << v) {
+        if crate::plain::looseness(rows, s | 1 << v) <= k {
             s |= 1 << v;
         }
     }

@@ -103,6 +103,11 @@ pub fn ring(n: usize) -> Vec<u64> {
     by_pairs(n, |a, b| b == a + 1 || (a == 0 && b == n - 1))
 }
 
+/// One vertex, adjacent to all others.
+pub fn star(n: usize) -> Vec<u64> {
+    by_pairs(n, |a, _| a == 0)
+}
+
 /// All pairs.
 pub fn complete(n: usize) -> Vec<u64> {
     by_pairs(n, |_, _| true)

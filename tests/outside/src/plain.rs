@@ -26,7 +26,13 @@ pub fn cost(rows: &[u64], set: &[usize], v: usize) -> usize {
     set.iter().filter(|&&w| !adjacent(rows, v, w)).count()
 }
 
-/// Each member is adjacent to at least |S| - k members.
+/// The most members that a member misses, itself counted; 0 where there is none.
+pub fn looseness(rows: &[u64], s: u64) -> usize {
+    let set = members(s);
+    set.iter().map(|&v| cost(rows, &set, v)).max().unwrap_or(0)
+}
+
+/// Definition 1 of 001, by which lists are compared: each member is adjacent to at least |S| - k members.
 pub fn is_plex(rows: &[u64], k: usize, s: u64) -> bool {
     let set = members(s);
     set.iter().all(|&v| set.iter().filter(|&&w| adjacent(rows, v, w)).count() + k >= set.len())

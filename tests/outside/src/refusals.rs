@@ -1,5 +1,5 @@
 //! Which refusal a call owes, from the table of refusals: the number and the value of the first cause that holds, in the order of the call.
-use crate::plain::{adjacent, is_plex};
+use crate::plain::{adjacent, looseness};
 
 /// The number and the value of a refusal, or none.
 pub type Refused = Option<(usize, usize)>;
@@ -35,8 +35,13 @@ fn reaches(s: u64, n: usize) -> bool {
     (n..64).any(|v| s >> v & 1 == 1)
 }
 
-/// 1, 2, 4, 5, 7: of the calls that judge a set.
-pub fn judging(rows: &[u64], k: usize, s: u64) -> Refused {
+/// 1, 4, 5, 7: of looseness.
+pub fn loose(rows: &[u64], s: u64) -> Refused {
+    vertices(rows.len()).or_else(|| edges(rows)).or_else(|| when(reaches(s, rows.len()), 7, 0))
+}
+
+/// 1, 2, 4, 5, 7: of judging maximality.
+pub fn maximal(rows: &[u64], k: usize, s: u64) -> Refused {
     vertices(rows.len()).or_else(|| slack(k)).or_else(|| edges(rows)).or_else(|| when(reaches(s, rows.len()), 7, 0))
 }
 
@@ -54,11 +59,11 @@ pub fn reach(rows: &[u64], v: usize) -> Refused {
 pub fn bound(rows: &[u64], k: usize, s: u64, c: u64, v: usize) -> Refused {
     let n = rows.len();
     let outside = || when(reaches(s, n) || reaches(c, n) || v >= n, 7, 0);
-    let misplaced = || when(!is_plex(rows, k, s | 1 << v) || c >> v & 1 == 0 || s & c != 0, 10, 0);
+    let misplaced = || when(looseness(rows, s | 1 << v) > k || c >> v & 1 == 0 || s & c != 0, 10, 0);
     vertices(n).or_else(|| slack(k)).or_else(|| edges(rows)).or_else(outside).or_else(misplaced)
 }
 
 /// 1, 2, 4, 5, 7, 11: of the largest k-plex.
 pub fn largest(rows: &[u64], k: usize, forced: u64) -> Refused {
-    judging(rows, k, forced).or_else(|| when(!is_plex(rows, k, forced), 11, 0))
+    maximal(rows, k, forced).or_else(|| when(looseness(rows, forced) > k, 11, 0))
 }

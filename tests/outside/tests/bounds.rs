@@ -8,7 +8,7 @@ use outside::plain;
 fn place(rng: &mut Rng, rows: &[u64], k: usize) -> Option<(u64, u64, usize)> {
     let s = grown_plex(rng, rows, k);
     let c = (subset(rng, rows.len()) | subset(rng, rows.len())) & !s;
-    let open: Vec<usize> = plain::members(c).into_iter().filter(|&v| plain::is_plex(rows, k, s | 1 << v)).collect();
+    let open: Vec<usize> = plain::members(c).into_iter().filter(|&v| plain::looseness(rows, s | 1 << v) <= k).collect();
     (!open.is_empty()).then(|| (s, c, open[rng.below(open.len())]))
 }
 

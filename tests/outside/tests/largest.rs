@@ -4,7 +4,7 @@ use outside::calls::{is_maximal, largest, refused, success};
 use outside::cases::{all_graphs, graph, grown_plex, many, subset};
 use outside::instances::{self, Rng};
 use outside::largest::{by_all_sets, plain};
-use outside::plain::{full, is_plex, members};
+use outside::plain::{full, looseness, members};
 
 /// Holds both calls to what is wanted, and the answer to what it means: a maximal k-plex that holds the forced vertices.
 fn hold(rows: &[u64], k: usize, forced: u64, (size, mask): (usize, u64)) {
@@ -18,7 +18,7 @@ fn hold(rows: &[u64], k: usize, forced: u64, (size, mask): (usize, u64)) {
 
 /// The same for any forced set of a graph of few vertices, one that is no k-plex included, by trying all sets.
 fn hold_by_all_sets(rows: &[u64], k: usize, forced: u64) {
-    if is_plex(rows, k, forced) {
+    if looseness(rows, forced) <= k {
         hold(rows, k, forced, by_all_sets(rows, k, forced));
     } else {
         assert_eq!(largest(rows, k, forced), refused((11, 0)), "{rows:X?} k={k} forced={forced:X}");
