@@ -17,9 +17,12 @@ abbrev μ-loop : tie.MeasureT-loop
 abbrev turn : tie.After-lowest Inv-loop μ-loop → tie.At-loop Inv-loop μ-loop
 turn c = c .before .before .before
 
--- what is to come falls
-falls : (c : tie.After-rest Inv-loop μ-loop) → mask (c .rest .result) < mask (turn (c .before) .loop .left)
-falls c = walk-falls (c .before .lowest .ensures) (c .rest .ensures)
+-- what is to come after the member that was asked
+abbrev rest-of : tie.After-missing Inv-loop μ-loop → tie.After-rest Inv-loop μ-loop
+rest-of c = c .before
+
+falls : (c : tie.After-missing Inv-loop μ-loop) → mask (rest-of c .rest .result) < mask (turn (rest-of c .before) .loop .left)
+falls c = let rest = rest-of c in walk-falls (rest .before .lowest .ensures) (rest .rest .ensures)
 
 loop-holds : tie.Need-loop-holds Inv-loop μ-loop
 loop-holds c = loosening-none (c .before .pre .below)
@@ -36,24 +39,22 @@ missing-requires c κs =
     walk-below (turn at .loop .inv .within) (turn at .loop .inv .bounded .part) (at .lowest .ensures)
 
 loop-less : tie.Need-loop-less Inv-loop μ-loop
-loop-less c = falls (c .before .before)
+loop-less c = falls (c .before)
 
 loop-again : tie.Need-loop-again Inv-loop μ-loop
 loop-again c =
-    let missed = c .before in
-    let rest = missed .before in
+    let rest = rest-of (c .before) in
     let at = rest .before in
-    loosening-more (turn at .loop .inv) (at .lowest .ensures) (rest .rest .ensures) (missed .missing .ensures .0) (c .if2 .taken)
+    loosening-more (turn at .loop .inv) (at .lowest .ensures) (rest .rest .ensures) (c .before .missing .ensures .0) (c .if2 .taken)
 
 loop-less-2 : tie.Need-loop-less-2 Inv-loop μ-loop
-loop-less-2 c = falls (c .before .before)
+loop-less-2 c = falls (c .before)
 
 loop-again-2 : tie.Need-loop-again-2 Inv-loop μ-loop
 loop-again-2 c =
-    let missed = c .before in
-    let rest = missed .before in
+    let rest = rest-of (c .before) in
     let at = rest .before in
-    loosening-same (turn at .loop .inv) (at .lowest .ensures) (rest .rest .ensures) (missed .missing .ensures .0) (c .if2 .left)
+    loosening-same (turn at .loop .inv) (at .lowest .ensures) (rest .rest .ensures) (c .before .missing .ensures .0) (c .if2 .left)
 
 returns : tie.Need-returns Inv-loop μ-loop
 returns c = loosening-all (walk-over (c .before .is-empty .ensures) (c .if1 .left)) (c .before .before .loop .inv)
