@@ -93,7 +93,11 @@ fn wrong(n: usize, number: usize, value: usize) -> bool {
 fn faulty(own: usize, far: usize, one: usize, mask: u64, number: usize, value: usize) -> bool {
     let mut rows = [0u64; 5 * sets::WORDS];
     graphs::build_faulty(&mut rows, own, far, one);
-    gives(judging::looseness(&rows, sets::of_word(mask)), number, value)
+    gives(
+        judging::looseness(&rows, sets::of_word(mask)),
+        number,
+        value,
+    )
 }
 
 // Each with the later causes too: 1, 4, 5, 7. Vertex 5 is none of a ring of five.

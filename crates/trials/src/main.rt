@@ -82,5 +82,8 @@ fn main() {
     largest_cases();
     comparisons();
     tally::print(b"largest against all sets", every_set(Call::Largest));
-    tally::print(b"looseness against the definition", every_set(Call::Looseness));
+    tally::print(
+        b"looseness against the definition",
+        every_set(Call::Looseness),
+    );
 }

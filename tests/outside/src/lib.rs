@@ -1,6 +1,6 @@
 //! Independent implementations in plain Rust, against which the tests hold the library and the benchmark times it.
 //!
-//!   plain      k-plexes, core, reach and bounds straight from their definitions, over lists of vertices
+//!   plain      looseness, k-plexes, core, reach and bounds straight from their definitions, over lists of vertices
 //!   refusals   which refusal a call owes, from the table of refusals
 //!   text       sheets, read and written by lines
 //!   brute      the list by trying all sets, up to 16 vertices
