@@ -3,6 +3,7 @@ pub mod Graph
 pub mod Plex
 pub mod Request
 pub mod Refusal
+pub mod Survey
 pub mod Setting
 pub mod Calls
 pub mod GraphLaws
@@ -11,6 +12,7 @@ pub mod LoosenessLaws
 pub mod MaximalLaws
 pub mod ExtensionLaws
 pub mod NarrowLaws
+pub mod SurveyLaws
 pub mod RefusalLaws
 pub mod CallLaws
 pub mod OutcomeLaws

@@ -1,22 +1,18 @@
--- Laws of looseness: a set is a k-plex exactly where its looseness is at most k, so what holds of plexes holds of it; and looseness found member by member.
---
---   Loosening g s left most   most is the most that a member of s misses of those that are not in left
+-- Laws of looseness: a set is a k-plex exactly where its looseness is at most k, so it is the least such slack, and what is known of plexes bounds it.
 use Prim.Native.Nat.{ℕ, _^_, _≤_, _<_}
 use native.Mathlib.Omega.{arith}
-use mathlib.Core.Path.{_≡_, ap, _∙_}
+use mathlib.Core.Path.{_≡_, ap}
 use mathlib.Core.Bool.{false}
 use mathlib.Core.List.{List}
-use lib.Dec.{T, leb, leb→le, le→leb}
+use lib.Dec.{leb, leb→le, le→leb}
 use lib.ListN.{length}
 use Rattle.sets.specs.Ranges.{greatest}
-use Rattle.sets.specs.Set.{In, Sub, size, without, members}
+use Rattle.sets.specs.Set.{Sub, size, members}
 use Rattle.sets.specs.RangeLaws.{test-same, is-false}
 use Rattle.sets.specs.ListLaws.{greatest-le, greatest-ge}
 use Rattle.sets.specs.PointLaws.{by-bit, none-by}
 use Rattle.sets.specs.SubsetLaws.{in-below}
 use Rattle.sets.specs.MemberLaws.{mem-members, members-mem, members-none}
-use Rattle.sets.specs.Words.{Lowest}
-use Rattle.sets.specs.WalkLaws.{Walked, walk-none, walk-next, walk-map, walk-all, walk-member, walk-below}
 use Rattle.judging.specs.Graph.{missing, Valid}
 use Rattle.judging.specs.Plex.{plex, maximal, looseness, Plex}
 use Rattle.judging.specs.GraphLaws.{missing-self}
@@ -62,30 +58,3 @@ pub none-loose : {g : List ℕ} (s : ℕ) → Valid g → s < 2 ^ length g → l
 none-loose {g} s ok b e =
     none-by s (λ v.
     by-bit s v (λ i. let l = in-below (length g) s v b i in absurd (omega (arith, missing-self s v ok l i, looseness-holds g s v l i))) (λ o. o))
-
--- ---- member by member
-
-pub record Loosening (g : List ℕ) (s left most : ℕ) : Type 0 where
-  pub within : s < 2 ^ length g
-  pub bounded : Walked (λ v. missing g s v ≤ most) s left
-  pub reached : most ≤ looseness g s
-
-pub loosening-none : {g : List ℕ} {s : ℕ} → s < 2 ^ length g → Loosening g s s 0
-loosening-none b = record { within = b; bounded = walk-none; reached = omega arith }
-
--- one member more: v misses n
-module _ {g : List ℕ} {s left most v rest n : ℕ} (h : Loosening g s left most) (l : Lowest left v) (e : rest ≡ without left v)
-    (z : n ≡ missing g s v) where
-  pub loosening-same : n ≤ most → Loosening g s rest most
-  loosening-same few = record { within = h .within; bounded = walk-next v e (h .bounded) (omega arith); reached = h .reached }
-
-  pub loosening-more : most < n → Loosening g s rest n
-  loosening-more many =
-      record {
-        within = h .within;
-        bounded = walk-next v e (walk-map (λ u d. omega arith) (h .bounded)) (omega arith);
-        reached = omega (arith, looseness-holds g s v (walk-below (h .within) (h .bounded .part) l) (walk-member s (h .bounded .part) l));
-      }
-
-pub loosening-all : {g : List ℕ} {s left most : ℕ} → left ≡ 0 → Loosening g s left most → most ≡ looseness g s
-loosening-all {g} {s} {left} {most} z h = omega (arith, h .reached, plex-loose g most s (λ v l i. walk-all z (h .bounded) v i))

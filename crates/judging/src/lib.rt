@@ -5,6 +5,7 @@ ghost use Rattle.judging.specs.Calls.{numberOf, valueOf, loosenessFoundR
 
 pub mod check;
 pub mod plex;
+pub mod survey;
 
 use sets::Set;
 

@@ -21,34 +21,9 @@ pub fn looseness(rows: &[u64], s: Set) -> usize
     requires { ⌜ Inside (masks (now rows)) (mask s) ⌝ }
     ensures { λ r. ⌜ r ≡ looseness (masks (now (rows .entry))) (mask s) ⌝ }
 {
-    let mut most = 0;
-    let mut left = s;
-    while !sets::is_empty(left) {
-        let v = sets::lowest(left);
-        left = sets::rest(left, v);
-        let m = missing(rows, s, v);
-        if most < m {
-            most = m;
-        }
-    }
-    most
-}
-
-// The vertices outside s that are adjacent to each member of s that misses k or more of s.
-fn unblocked(rows: &[u64], k: usize, s: Set) -> Set
-    requires { ⌜ Inside (masks (now rows)) (mask s) ⌝ }
-    ensures { λ r. ⌜ mask r ≡ unblocked (masks (now (rows .entry))) k (mask s) ⌝ }
-{
-    let mut free = sets::minus(sets::full(sets::count(rows)), s);
-    let mut left = s;
-    while !sets::is_empty(left) {
-        let v = sets::lowest(left);
-        left = sets::rest(left, v);
-        if k <= missing(rows, s, v) {
-            free = sets::meet(free, sets::get(rows, v));
-        }
-    }
-    free
+    // what no member blocks is not asked for, so any slack will do
+    let seen = crate::survey::survey(rows, 0, s);
+    seen.most
 }
 
 // Is there a vertex outside s that can be added to every k-plex inside s? The vertices that no member of s blocks are given.
@@ -72,8 +47,9 @@ pub(crate) fn is_maximal(rows: &[u64], k: usize, s: Set) -> bool
     requires { ⌜ Judgeable (masks (now rows)) (mask s) ⌝ }
     ensures { λ r. ⌜ r ≡ maximal (masks (now (rows .entry))) k (mask s) ⌝ }
 {
-    if k < looseness(rows, s) {
+    let seen = crate::survey::survey(rows, k, s);
+    if k < seen.most {
         return false;
     }
-    !is_extendable(rows, k, s, unblocked(rows, k, s))
+    !is_extendable(rows, k, s, seen.free)
 }

@@ -16,7 +16,7 @@ fn find(rows: &[u64], near: &[u64], k: usize, q: usize, few: usize, s: Set, c: S
     if search::cut::is_short(rows, k, q, true, s, a) {
         return sets::empty();
     }
-    let seen = search::survey::survey(rows, k, a);
+    let seen = judging::survey::survey(rows, k, a);
     let worst = seen.worst;
     if seen.most <= k {
         return a;

@@ -3,8 +3,6 @@ pub mod Found
 pub mod Trim
 pub mod TrimLaws
 pub mod FoundLaws
-pub mod Survey
-pub mod SurveyLaws
 pub mod Choice
 pub mod ChoiceLaws
 pub mod Partition

@@ -45,7 +45,7 @@ pub fn branch(
     if crate::cut::is_short(rows, k, q, parted, s, a) {
         return count;
     }
-    let seen = crate::survey::survey(rows, k, a);
+    let seen = judging::survey::survey(rows, k, a);
     let free = seen.free;
     let worst = seen.worst;
     if seen.most <= k {

@@ -15,7 +15,6 @@ mod cliques;
 pub mod cut;
 pub mod near;
 mod partition;
-pub mod survey;
 pub mod trim;
 
 use judging::Checked;

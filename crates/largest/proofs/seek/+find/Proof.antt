@@ -14,7 +14,7 @@ use Rattle.sets.specs.WalkLaws.{without-less}
 use Rattle.judging.specs.Request.{request}
 use Rattle.search.specs.Ready.{Whole}
 use Rattle.search.specs.ReadyLaws.{whole-inside, whole-between, ready-vertex, ready-joinable, ready-siftable}
-use Rattle.search.specs.SurveyLaws.{finds-plex}
+use Rattle.judging.specs.SurveyLaws.{finds-plex}
 use Rattle.largest.specs.SoughtLaws.{sought-short, sought-stuck, sought-leaf, without-ready, sought-without, sought-branches}
 use Rattle.largest.specs.FitLaws.{join-ready}
 use Rattle.largest.proofs.seek.find.Reads as find
@@ -23,7 +23,7 @@ use Rattle.largest.proofs.seek.+find.Lts-find as find-lts
 use Rattle.search.proofs.choice.among.Reads as among-reads
 use Rattle.search.proofs.choice.pick.Reads as pick-reads
 use Rattle.search.proofs.cut.is_short.Reads as is-short-reads
-use Rattle.search.proofs.survey.survey.Reads as survey-reads
+use Rattle.judging.proofs.survey.survey.Reads as survey-reads
 use Rattle.search.proofs.trim.beside.Reads as beside-reads
 use Rattle.search.proofs.trim.fewer.Reads as fewer-reads
 use Rattle.search.proofs.trim.sift.Reads as sift-reads

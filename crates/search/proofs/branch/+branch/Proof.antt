@@ -12,7 +12,7 @@ use Rattle.sets.specs.Set as sets
 use Rattle.sets.specs.Words.{mask, masks}
 use Rattle.sets.specs.SubsetLaws.{in-below, in-of-sub, sub-below, positive-of}
 use Rattle.judging.specs.Request.{request}
-use Rattle.search.specs.SurveyLaws.{finds-plex}
+use Rattle.judging.specs.SurveyLaws.{finds-plex}
 use Rattle.search.specs.Ready.{Whole, Split}
 use Rattle.search.specs.ReadyLaws.{ready-vertex, ready-joinable, ready-siftable, whole-inside, whole-between}
 use Rattle.search.specs.ReadyLaws.{short-adds, extendable-adds, stuck-adds, leaf-adds}
@@ -26,7 +26,7 @@ use Rattle.search.proofs.choice.pick.Reads as pick-reads
 use Rattle.search.proofs.cut.is_bounded.Reads as is-bounded-reads
 use Rattle.search.proofs.cut.is_short.Reads as is-short-reads
 use Rattle.search.proofs.cut.is_extendable.Reads as is-extendable-reads
-use Rattle.search.proofs.survey.survey.Reads as survey-reads
+use Rattle.judging.proofs.survey.survey.Reads as survey-reads
 use Rattle.search.proofs.trim.beside.Reads as beside-reads
 use Rattle.search.proofs.trim.fewer.Reads as fewer-reads
 use Rattle.search.proofs.trim.sift.Reads as sift-reads

@@ -3,8 +3,8 @@ ghost use Prim.Native.Nat.{_≤_, _<_};
 ghost use mathlib.Core.Path.{_≡_};
 ghost use lib.Bits.{bitAnd};
 ghost use Rattle.sets.specs.Words.{mask, masks};
 ghost use Rattle.judging.specs.Setting.{Inside};
-ghost use Rattle.search.specs.Survey.{Finds};
+ghost use Rattle.judging.specs.Survey.{Finds};
 use sets::Set;
 
 // What the pass finds: `most` is the looseness of the set, `worst` a member that misses so many,
@@ -37,7 +37,7 @@ pub fn survey(rows: &[u64], k: usize, a: Set) -> Findings
     while !sets::is_empty(left) {
         let v = sets::lowest(left);
         left = sets::rest(left, v);
-        let m = judging::plex::missing(rows, a, v);
+        let m = crate::plex::missing(rows, a, v);
         free = narrow(free, sets::get(rows, v), k, m);
         if most < m {
             most = m;

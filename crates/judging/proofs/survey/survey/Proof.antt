@@ -3,10 +3,10 @@ use Prim.Native.Nat.{_<_}
 use native.Mathlib.Omega.{arith}
 use Rattle.sets.specs.Words.{mask, masks}
 use Rattle.sets.specs.WalkLaws.{walk-falls, walk-goes-on, walk-over}
 use Rattle.judging.specs.NarrowLaws.{narrowed-vertex}
-use Rattle.search.specs.SurveyLaws.{Finding, finding-none, finding-same, finding-more, finding-all}
-use Rattle.search.proofs.survey.survey.Statement.{statement}
-use Rattle.search.proofs.survey.survey.Tie as tie
+use Rattle.judging.specs.SurveyLaws.{Finding, finding-none, finding-same, finding-more, finding-all}
+use Rattle.judging.proofs.survey.survey.Statement.{statement}
+use Rattle.judging.proofs.survey.survey.Tie as tie
 
 abbrev Inv-loop : tie.InvT-loop
 Inv-loop rows k a most₀ worst₀ free₀ left₀ most worst free left = Finding (masks rows) k (mask a) (mask left) most worst (mask free)
@@ -18,9 +18,12 @@ abbrev μ-loop : tie.MeasureT-loop
 abbrev turn : tie.After-lowest Inv-loop μ-loop → tie.At-loop Inv-loop μ-loop
 turn c = c .before .before .before
 
--- what is to come falls
-falls : (c : tie.After-rest Inv-loop μ-loop) → mask (c .rest .result) < mask (turn (c .before) .loop .left)
-falls c = walk-falls (c .before .lowest .ensures) (c .rest .ensures)
+-- what is to come after the member that was counted for, and that it falls
+abbrev rest-of : tie.After-missing Inv-loop μ-loop → tie.After-rest Inv-loop μ-loop
+rest-of c = c .before
+
+falls : (c : tie.After-missing Inv-loop μ-loop) → mask (rest-of c .rest .result) < mask (turn (rest-of c .before) .loop .left)
+falls c = let rest = rest-of c in walk-falls (rest .before .lowest .ensures) (rest .rest .ensures)
 
 full-requires : tie.Need-full-requires Inv-loop μ-loop
 full-requires c κs = (omega arith, omega arith)
@@ -37,31 +40,33 @@ rest-requires : tie.Need-rest-requires Inv-loop μ-loop
 rest-requires c κs = c .lowest .ensures
 
 missing-requires : tie.Need-missing-requires Inv-loop μ-loop
-missing-requires c κs = narrowed-vertex (turn (c .before) .loop .inv .narrowed) (c .before .lowest .ensures)
+missing-requires c κs =
+    let at = c .before in
+    narrowed-vertex (turn at .loop .inv .narrowed) (at .lowest .ensures)
 
 get-requires : tie.Need-get-requires Inv-loop μ-loop
 get-requires c κs =
-    let at = c .before .before in
+    let at = rest-of c .before in
     narrowed-vertex (turn at .loop .inv .narrowed) (at .lowest .ensures)
 
 loop-less : tie.Need-loop-less Inv-loop μ-loop
-loop-less c = falls (c .before .before .before .before)
+loop-less c = falls (c .before .before .before)
 
 loop-again : tie.Need-loop-again Inv-loop μ-loop
 loop-again c =
     let got = c .before .before in
-    let rest = got .before .before in
+    let rest = rest-of (got .before) in
     let at = rest .before in
     finding-more (turn at .loop .inv) (at .lowest .ensures) (rest .rest .ensures) (got .before .missing .ensures .0) (got .get .ensures)
     (c .before .narrow .ensures) (c .if2 .taken)
 
 loop-less-2 : tie.Need-loop-less-2 Inv-loop μ-loop
-loop-less-2 c = falls (c .before .before .before .before)
+loop-less-2 c = falls (c .before .before .before)
 
 loop-again-2 : tie.Need-loop-again-2 Inv-loop μ-loop
 loop-again-2 c =
     let got = c .before .before in
-    let rest = got .before .before in
+    let rest = rest-of (got .before) in
     let at = rest .before in
     finding-same (turn at .loop .inv) (at .lowest .ensures) (rest .rest .ensures) (got .before .missing .ensures .0) (got .get .ensures)
     (c .before .narrow .ensures) (c .if2 .left)
