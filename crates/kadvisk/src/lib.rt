@@ -15,7 +15,7 @@ use judging::Request;
 use search::Cuts;
 
 // The outcome of a call. `number` is 0 for a success and else document 01's number of the refusal. `found` is what a question found: a looseness, 1 or 0
-// for yes or no, a set's mask, a bound; it is 0 with a refusal, and where `value` says all. `value` and `found` together are the size and the mask of a largest k-plex.
+// for yes or no, a set's mask, a bound; it is 0 with a refusal, and where `value` says all. Of a largest k-plex `value` is the size and `found` the mask.
 #[repr(C)]
 pub struct Outcome {
     pub number: usize,

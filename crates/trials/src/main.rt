@@ -1,6 +1,6 @@
 // Runs the edge cases of documents 01 and 02 that are not proved, and compares with trying all sets: the lists for graphs of 1 to 16 vertices, for graphs
-// of 1 to 10 the largest k-plex with each set forced, and how loose each set is. Prints a line for each group: how many cases it has, and how many of them differ. Where an
-// answer differs, its graph is printed as a sheet.
+// of 1 to 10 the largest k-plex with each set forced, and how loose each set is. Prints a line for each group: how many cases it has, and how many of
+// them differ. Where an answer differs, its graph is printed as a sheet.
 mod all_sets;
 mod compare;
 mod graphs;
