@@ -16,7 +16,7 @@ use Rattle.sets.specs.RangeLaws.{test}
 use Rattle.sets.specs.SubsetLaws.{sub-with, with-sub, with-same, with-below, subset-sub, sub-subset, in-of-sub, in-below}
 use Rattle.sets.specs.SizeLaws.{missing-member, sub-size-eq}
 use Rattle.sets.specs.MemberLaws.{all-members, members-all}
-use Rattle.judging.specs.Graph.{degree, missing}
+use Rattle.judging.specs.Graph.{degree}
 use Rattle.judging.specs.Plex.{plex, maximal, Plex, Maximal}
 use Rattle.judging.specs.GraphLaws.{degree-missing, missing-mono}
 

@@ -1,4 +1,4 @@
--- A survey of a set, member by member.
+-- A survey of a set, member by member: after the last one the most that was missed is the looseness, since a member misses it and none misses more.
 --
 --   Finding g k a left most worst free   what is found so far, with the members of left still to come
 use Prim.Native.Nat.{ℕ, _^_, _<_, _≤_}

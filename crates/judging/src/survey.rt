@@ -1,4 +1,4 @@
-// One pass over a set: how much its members miss, and which vertices no member blocks.
+// One pass over a set: how loose it is, and which vertices no member blocks. It serves the calls and the search's inner loop.
 ghost use Prim.Native.Nat.{_≤_, _<_};
 ghost use mathlib.Core.Path.{_≡_};
 ghost use lib.Bits.{bitAnd};
@@ -25,7 +25,8 @@ fn narrow(free: Set, row: Set, k: usize, m: usize) -> Set
     free
 }
 
-// The two tests of a turn stand apart, so that they are compiled to choices and not to branches, which would be hard to foretell.
+// What is found of a beside the slack k. The two tests of a turn stand apart, so that they are compiled to choices and not to branches, which would be
+// hard to foretell.
 pub fn survey(rows: &[u64], k: usize, a: Set) -> Findings
     requires { ⌜ Inside (masks (now rows)) (mask a) ⌝ }
     ensures { λ r. ⌜ Finds (masks (now (rows .entry))) k (mask a) (r .most) (r .worst) (mask (r .free)) ⌝ }

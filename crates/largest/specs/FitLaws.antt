@@ -2,7 +2,7 @@
 -- more, no listed plex holds all forced ones.
 use Prim.Native.Nat.{ℕ, _^_}
 use native.Mathlib.Omega.{arith}
-use mathlib.Core.Path.{_≡_, refl, ap}
+use mathlib.Core.Path.{_≡_, refl}
 use mathlib.Core.List.{List}
 use lib.Pow.{pow-pos}
 use lib.ListN.{length}

@@ -12,8 +12,7 @@ use Rattle.sets.specs.Graph.{row}
 use Rattle.sets.specs.RangeLaws.{and-left, and-right, both, test-same}
 use Rattle.sets.specs.BitLaws.{bit-or}
 use Rattle.sets.specs.PointLaws.{bit-with, single-out, by-bit}
-use Rattle.sets.specs.SubsetLaws.{sub-number, in-of-sub, in-below, minus-sub, with-below}
-use Rattle.sets.specs.SizeLaws.{minus-below}
+use Rattle.sets.specs.SubsetLaws.{sub-number, in-below, minus-sub, with-below}
 use Rattle.sets.specs.WalkLaws.{without-less}
 use Rattle.judging.specs.Request.{Request}
 use Rattle.judging.specs.Graph.{missing}

@@ -1,5 +1,5 @@
 -- Laws of the order of masks: the highest vertex in which two sets differ decides it.
-use Prim.Native.Nat.{ℕ, zero, suc, _/_, _%_, _<_, suc-le-suc}
+use Prim.Native.Nat.{ℕ, zero, suc, _/_, _<_, suc-le-suc}
 use native.Mathlib.Nat.{zero-lt-suc}
 use native.Mathlib.Omega.{arith}
 use mathlib.Core.Path.{_≡_, sym, _∙_}

@@ -70,6 +70,27 @@ pub fn damage(rng: &mut Rng, rows: &mut [u64]) {
     }
 }
 
+/// No edges, and the chosen ones of the causes 1, 4 and 5: with 1 there is no row, or 65; row 3 has its own bit; row 2 has 1, whose row lacks 2.
+pub fn faulty_rows([vertices, row, one_way]: [bool; 3], empty: bool) -> Vec<u64> {
+    let mut rows = match (vertices, empty) {
+        (false, _) => vec![0; 5],
+        (true, false) => vec![0; 65],
+        (true, true) => vec![],
+    };
+    if row && rows.len() > 3 {
+        rows[3] |= 1 << 3;
+    }
+    if one_way && rows.len() > 2 {
+        rows[2] |= 1 << 1;
+    }
+    rows
+}
+
+/// The first of these refusals that is chosen.
+pub fn first_of<const N: usize>(refusals: [(usize, usize); N], chosen: [bool; N]) -> Option<(usize, usize)> {
+    refusals.into_iter().zip(chosen).find(|(_, holds)| *holds).map(|(refusal, _)| refusal)
+}
+
 /// Numbers at and around the limits.
 pub fn slack(rng: &mut Rng) -> usize {
     [0, 1, 1, 2, 2, 3, 4, 5, 8, 31, 32, 33, 34, 255, usize::MAX][rng.below(15)]

@@ -1,7 +1,7 @@
 //! The largest k-plex that holds forced vertices: against trying all sets up to 14 vertices, and against 003's algorithm up to 64; beside the list; refusals.
 use kadvisk::Largest;
 use outside::calls::{is_maximal, largest, refused, success};
-use outside::cases::{all_graphs, graph, grown_plex, many, subset};
+use outside::cases::{all_graphs, faulty_rows, first_of, graph, grown_plex, many, subset};
 use outside::instances::{self, Rng};
 use outside::largest::{by_all_sets, plain};
 use outside::plain::{full, looseness, members};
@@ -217,19 +217,9 @@ fn worked_edges() {
 /// An input with the chosen ones of the causes 1, 2, 4, 5, 7, 11, and the refusal that it owes. With cause 1 it has no row, or 65.
 fn faulty(causes: [bool; 6], empty: bool, slack: usize) -> (Vec<u64>, usize, u64, Option<(usize, usize)>) {
     let [vertices, slack_wrong, row, one_way, outside, no_plex] = causes;
-    let mut rows = match (vertices, empty) {
-        (false, _) => vec![0; 5],
-        (true, false) => vec![0; 65],
-        (true, true) => vec![],
-    };
-    if row && rows.len() > 3 {
-        rows[3] |= 1 << 3;
-    }
-    if one_way && rows.len() > 2 {
-        rows[2] |= 1 << 1;
-    }
+    let rows = faulty_rows([vertices, row, one_way], empty);
     let forced = if outside { 1 << 63 } else { 0 } | if no_plex { 3 } else { 0 };
-    let first = [(1, 0), (2, 0), (4, 3), (5, 2), (7, 0), (11, 0)].into_iter().zip(causes).find(|(_, holds)| *holds).map(|(refusal, _)| refusal);
+    let first = first_of([(1, 0), (2, 0), (4, 3), (5, 2), (7, 0), (11, 0)], causes);
     (rows, if slack_wrong { slack } else { 1 }, forced, first)
 }
 

@@ -1,7 +1,7 @@
 //! Every refusal of every call, with its value, its place in the order, and the buffers it leaves.
 use kadvisk::ffi::Outcome;
 use outside::calls::*;
-use outside::cases::{damage, floor, graph, many, slack, subset};
+use outside::cases::{damage, faulty_rows, first_of, floor, graph, many, slack, subset};
 use outside::instances::Rng;
 use outside::refusals::{self, when, Refused};
 use outside::{plain, text};
@@ -185,6 +185,21 @@ fn limits_of_slack_and_floor() {
         (1usize << 63, 0, 2),
     ] {
         assert_eq!(list(&rows, k, q, &mut none), refused((number, (number == 6) as usize)), "k={k} q={q}");
+    }
+}
+
+#[test]
+fn the_order_of_causes_of_looseness() {
+    // every choice of the causes 1, 4, 5 and 7; five vertices without an edge are 5 loose
+    for choice in 0..16u32 {
+        let causes: [bool; 4] = std::array::from_fn(|i| choice >> i & 1 == 1);
+        let [vertices, row, one_way, outside] = causes;
+        for empty in [false, true] {
+            let (rows, s) = (faulty_rows([vertices, row, one_way], empty), if outside { 1 << 63 } else { 0x1F });
+            let owed = first_of([(1, 0), (4, 3), (5, 2), (7, 0)], causes);
+            assert_eq!(looseness(&rows, s), owed.map_or(success(0, 5), refused), "causes {causes:?}");
+            assert_eq!(owed, refusals::loose(&rows, s), "causes {causes:?}");
+        }
     }
 }
 

@@ -1,5 +1,4 @@
 -- The checks decide first: a failed one is the reply. What passed is a set of vertices of a valid graph, and its looseness is the answer.
-use mathlib.Core.Path.{_∙_}
 use borrow.Author.Needs.{needs}
 use Rattle.judging.specs.Calls.{loosenessReply}
 use Rattle.judging.specs.RefusalLaws.{inside-checked}

@@ -1,7 +1,7 @@
 -- A check that failed before decides, whatever its causes were; after one that passed the set decides.
 use native.Mathlib.Omega.{arith}
 use mathlib.Core.Path.{sym, ap, _∙_}
-use mathlib.Core.List.{[], _∷_}
+use mathlib.Core.List.{[]}
 use Rattle.sets.specs.Words.{mask, masks}
 use Rattle.judging.specs.Refusal.{firstOf, setCause}
 use Rattle.judging.specs.Calls.{passed, checkedReply}
