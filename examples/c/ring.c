@@ -1,5 +1,5 @@
-/* Five vertices in a ring: judges a set, takes the core, lists the maximal 2-plexes of three or more vertices, finds the largest that holds a
- * vertex, and writes and reads the sheet. */
+/* Five vertices in a ring: tells how loose a set is, takes the core, lists the maximal 2-plexes of three or more vertices, finds the largest that
+ * holds a vertex, and writes and reads the sheet. */
 #include <inttypes.h>
 #include <stdio.h>
 

@@ -1,4 +1,4 @@
-//! Five vertices in a ring: judges a set, takes the core, lists the maximal 2-plexes of three or more vertices, and finds the largest with a given vertex.
+//! Five vertices in a ring: tells how loose a set is, takes the core, lists the maximal 2-plexes of three or more vertices, and finds the largest with a given vertex.
 
 fn main() -> Result<(), kadvisk::Refusal> {
     let ring = [0x12, 0x05, 0x0A, 0x14, 0x09];

@@ -3,6 +3,9 @@ use crate::words;
 
 pub const RANDOM: usize = 0;
 
+// Of the pseudo-random graphs the first of each size is empty.
+pub const EMPTY: usize = RANDOM;
+
 pub const COMPLETE: usize = 1;
 
 pub const RING: usize = 2;

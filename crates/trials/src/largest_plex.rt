@@ -1,6 +1,7 @@
 // Edges of the call that finds the largest k-plex, and its answers beside those of trying all sets.
 use crate::all_sets;
 use crate::graphs;
+use crate::graphs::EMPTY;
 use crate::graphs::NOWHERE;
 use crate::refusals;
 use crate::sheet;
@@ -12,9 +13,6 @@ use judging::Refusal;
 use judging::Request;
 use largest::LargestFound;
 use sets::Set;
-
-// Of the pseudo-random graphs the first of each size is empty.
-const EMPTY: usize = graphs::RANDOM;
 
 // The slacks beside which all sets are tried.
 const MOST_SLACK: usize = 4;

@@ -1,6 +1,7 @@
 // Edges of the call that tells how loose a set is, and its answers beside those of the definition.
 use crate::all_sets;
 use crate::graphs;
+use crate::graphs::EMPTY;
 use crate::graphs::NOWHERE;
 use crate::refusals;
 use crate::sheet;
@@ -11,9 +12,6 @@ use crate::words::GARBAGE;
 use judging::LoosenessFound;
 use judging::Request;
 use sets::Set;
-
-// Of the pseudo-random graphs the first of each size is empty.
-const EMPTY: usize = graphs::RANDOM;
 
 // The lowest 32, 33 and 34 vertices.
 const LOWEST_32: u64 = 4294967295;

@@ -51,9 +51,8 @@ fn listed(family: usize, most: usize) -> Tally {
     compare::group(tally::none(), Call::List, family, most)
 }
 
-// Of the pseudo-random graphs the first of each size is empty.
 fn comparisons() {
-    tally::print(b"empty graphs", listed(graphs::RANDOM, 1));
+    tally::print(b"empty graphs", listed(graphs::EMPTY, 1));
     tally::print(b"complete graphs", listed(graphs::COMPLETE, 1));
     tally::print(b"rings", listed(graphs::RING, 1));
     tally::print(b"paths", listed(graphs::PATH, 1));
