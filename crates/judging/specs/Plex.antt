@@ -1,7 +1,7 @@
 -- k-plexes and maximal k-plexes, by Seidman and Foster's definition.
 --
 --   plex g k s        s is a k-plex (document 01: a theme; 001, Definition 1): each member is adjacent to at least |s| - k members
---   looseness g s     the most members of s that a member misses, itself counted; 0 for no members. It is the least k for which s is a k-plex
+--   looseness g s     how loose s is (document 02): the most members that a member misses, itself counted; 0 for no members
 --   maximal g k s     s is a maximal k-plex (document 01: a maximal theme): no other k-plex of the graph contains it
 --   Plex, Maximal     the same as statements
 --   unblocked g k s   the vertices outside s that are adjacent to each member of s that misses k or more of s
