@@ -12,7 +12,8 @@ use Rattle.judging.specs.Calls.{refusal, numberOf, valueOf, passed, chec
 use Rattle.judging.specs.Setting.{Sized, LowRows}
 use Rattle.judging.specs.RefusalLaws.{first-holds, first-skips, first-append, first-refused, first-passed, rows-below}
 use Rattle.judging.specs.declared.Refusal.{Refusal}
-use Rattle.judging.specs.declared.Refusal.the-variants.{Vertices, Slack, Floor, Row, OneWay, Slots, Outside, Line, Room, Bound, Forced}
+use Rattle.judging.specs.declared.Refusal.the-variants.{Vertices, Slack, Floor, Row, OneWay, Slots, Outside, Line, Room, Bound}
+use Rattle.judging.specs.declared.Refusal.the-variants.{Forced, Loop, Unchanged}
 use Rattle.judging.specs.declared.Checked.{Checked}
 use Rattle.judging.specs.declared.Checked.the-variants.{Passed, Failed}
 
@@ -30,6 +31,8 @@ refusal-number (Line l) = omega arith
 refusal-number (Room n) = omega arith
 refusal-number Bound = omega arith
 refusal-number Forced = omega arith
+refusal-number Loop = omega arith
+refusal-number Unchanged = omega arith
 
 -- ---- the outcome of a check, whatever the call then answers
 

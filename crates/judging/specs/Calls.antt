@@ -12,7 +12,8 @@ use Rattle.judging.specs.Plex.{maximal, looseness}
 use Rattle.judging.specs.Request.{Request}
 use Rattle.judging.specs.Refusal.{Reply, refused, answered, Cause, firstOf, vertexCause, slackCause, floorCause, graphCauses, setCause}
 use Rattle.judging.specs.declared.Refusal.{Refusal}
-use Rattle.judging.specs.declared.Refusal.the-variants.{Vertices, Slack, Floor, Row, OneWay, Slots, Outside, Line, Room, Bound, Forced}
+use Rattle.judging.specs.declared.Refusal.the-variants.{Vertices, Slack, Floor, Row, OneWay, Slots, Outside, Line, Room, Bound}
+use Rattle.judging.specs.declared.Refusal.the-variants.{Forced, Loop, Unchanged}
 use Rattle.judging.specs.declared.Checked.{Checked}
 use Rattle.judging.specs.declared.Checked.the-variants.{Passed, Failed}
 use Rattle.judging.specs.declared.LoosenessFound.{LoosenessFound}
@@ -32,6 +33,8 @@ numberOf (Line l) = 8
 numberOf (Room n) = 9
 numberOf Bound = 10
 numberOf Forced = 11
+numberOf Loop = 12
+numberOf Unchanged = 13
 
 abbrev pub valueOf : Refusal → ℕ
 valueOf Vertices = 0
@@ -45,6 +48,8 @@ valueOf (Line l) = l
 valueOf (Room n) = n
 valueOf Bound = 0
 valueOf Forced = 0
+valueOf Loop = 0
+valueOf Unchanged = 0
 
 abbrev pub refusal : {A : Type 0} → Refusal → Reply A
 refusal f = refused (numberOf f) (valueOf f)

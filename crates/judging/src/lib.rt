@@ -22,6 +22,8 @@ pub enum Refusal {
     Room(usize),
     Bound,
     Forced,
+    Loop,
+    Unchanged,
 }
 
 // The outcome of a check of the input.
@@ -65,6 +67,8 @@ pub fn number(refusal: Refusal) -> usize
         Refusal::Room(_) => 9,
         Refusal::Bound => 10,
         Refusal::Forced => 11,
+        Refusal::Loop => 12,
+        Refusal::Unchanged => 13,
     }
 }
 
@@ -84,6 +88,8 @@ pub fn value(refusal: Refusal) -> usize
         Refusal::Outside => 0,
         Refusal::Bound => 0,
         Refusal::Forced => 0,
+        Refusal::Loop => 0,
+        Refusal::Unchanged => 0,
     }
 }
 

@@ -1,4 +1,5 @@
--- Laws of the call that lists: from the outcome of the checks and from what the search added to what the call answers and leaves in the slots.
+-- Laws of the call that lists: from what the search added to what is collected, and from that and the outcome of the checks to what the call
+-- answers and leaves in the slots.
 use Prim.Native.Nat.{ℕ, _^_, _≤_, _<_}
 use native.Mathlib.Omega.{arith}
 use mathlib.Core.Path.{_≡_, sym, ap, _∙_}
@@ -18,7 +19,7 @@ use Rattle.lists.specs.Order.{Sorts}
 use Rattle.lists.specs.Placing.{mostCount, Adds}
 use Rattle.lists.specs.PlacingLaws.{adds-all}
 use Rattle.search.specs.Start.{Accepted}
-use Rattle.search.specs.Calls.{slotsCause, listReply, placed, slotsAfter, Lists}
+use Rattle.search.specs.Calls.{slotsCause, listReply, placed, slotsAfter, Lists, Collects}
 use Rattle.search.specs.declared.ListFound.the-variants.{Listed, Refused}
 
 -- ---- slots that are given a list
@@ -81,33 +82,38 @@ module _ (g : List ℕ) (ask : Request) where
     pub slots-short : (slots : List ℕ) → length slots < length (listing g ask) → slotsAfter g ask slots ≡ replicate (length slots) 0
     slots-short slots l = passed-slots slots ∙ placed-short (listing g ask) slots l
 
-    module _ {before after : List ℕ} {m : ℕ} (x : Adds (2 ^ length g) (listed g ask) before 0 after m) where
-      few : length (listing g ask) ≤ mostCount
-      few =
-          let a = accepted-holds e in
-          listing-counts g ask (omega (arith, a .slack, a .floor)) (vertices-accepted g (slack-graph g (ask .slack) (request-slack g ask e)) .1)
-
-      counted : m ≡ length (listing g ask)
-      counted = listing-placed g ask before after m few x .0
-
-      pub list-length : length after ≡ length before
-      list-length = adds-all (2 ^ length g) (listed g ask) before after m x .long
-
-      -- what was added, put in order, is the list
-      pub list-fits : {part exit : List ℕ} → m ≤ length before → Sorts (take m after) part → exit ≡ part ++ drop m after
-          → Lists g ask before exit (Listed m)
-      list-fits {part} l h z =
+    module _ {before after : List ℕ} {m : ℕ} (x : Collects g ask before after m) where
+      -- the slots that are given the list
+      pub list-fits : m ≤ length before → Lists g ask before after (Listed m)
+      list-fits l =
           record {
-            reply = ap (λ (n : ℕ). answered n tt) counted ∙ sym (reply-fits (length before) (omega (arith, counted)));
-            slots =
-                z ∙ listing-sorted g ask before after part m few x l h ∙ ap (λ (n : ℕ). listing g ask ++ drop n before) counted
-                ∙ sym (slots-fits before (omega (arith, counted)));
+            reply = ap (λ (n : ℕ). answered n tt) (x .counted) ∙ sym (reply-fits (length before) (omega (arith, x .counted)));
+            slots = x .fits l ∙ ap (λ (n : ℕ). listing g ask ++ drop n before) (x .counted) ∙ sym (slots-fits before (omega (arith, x .counted)));
           }
 
       -- there are more plexes than slots: these are cleared
-      pub list-short : {exit : List ℕ} → length before < m → exit ≡ replicate (length after) 0 → Lists g ask before exit (Refused (Slots m))
+      pub list-short : {exit : List ℕ} → length before < m → exit ≡ replicate (length before) 0 → Lists g ask before exit (Refused (Slots m))
       list-short l z =
           record {
-            reply = ap (refused 6) counted ∙ sym (reply-short (length before) (omega (arith, counted)));
-            slots = z ∙ ap (λ (n : ℕ). replicate n 0) list-length ∙ sym (slots-short before (omega (arith, counted)));
+            reply = ap (refused 6) (x .counted) ∙ sym (reply-short (length before) (omega (arith, x .counted)));
+            slots = z ∙ sym (slots-short before (omega (arith, x .counted)));
           }
+
+-- ---- what the search added
+
+module _ {g : List ℕ} {ask : Request} (a : Accepted g ask) {before after : List ℕ} {m : ℕ} (x : Adds (2 ^ length g) (listed g ask) before 0 after m) where
+  few : length (listing g ask) ≤ mostCount
+  few = listing-counts g ask (omega (arith, a .slack, a .floor)) (a .sized .most)
+
+  counted : m ≡ length (listing g ask)
+  counted = listing-placed g ask before after m few x .0
+
+  pub added-length : length after ≡ length before
+  added-length = adds-all (2 ^ length g) (listed g ask) before after m x .long
+
+  -- put in order it is the list
+  pub collects-fits : {part exit : List ℕ} → m ≤ length before → Sorts (take m after) part → exit ≡ part ++ drop m after → Collects g ask before exit m
+  collects-fits {part} l h z = record { counted = counted; fits = λ k. z ∙ listing-sorted g ask before after part m few x l h }
+
+  pub collects-short : length before < m → Collects g ask before after m
+  collects-short l = record { counted = counted; fits = λ k. absurd (omega arith) }

@@ -5,7 +5,8 @@
 --   placed l slots           the slots that are given the list l: l and behind it what they held, or all 0 where it does not fit
 --   slotsAfter g ask slots   the slots at exit: as they were where the request is refused, else given the list
 --   Lists                    both, as the call's promise
-use Prim.Native.Nat.{ℕ}
+--   Collects                 the promise of the function below it: m, and where the list fits, the slots given it
+use Prim.Native.Nat.{ℕ, _≤_}
 use mathlib.Core.Path.{_≡_}
 use mathlib.Core.Bool.{cond}
 use mathlib.Core.List.{List, [], _∷_, _++_}
@@ -44,3 +45,8 @@ listFoundReply (Refused f) = refusal f
 pub record Lists (g : List ℕ) (ask : Request) (before after : List ℕ) (r : ListFound) : Type 0 where
   pub reply : listFoundReply r ≡ listReply g ask (length before)
   pub slots : after ≡ slotsAfter g ask before
+
+-- what slots that are too few then hold is left open
+pub record Collects (g : List ℕ) (ask : Request) (before after : List ℕ) (m : ℕ) : Type 0 where
+  pub counted : m ≡ length (listing g ask)
+  pub fits : m ≤ length before → after ≡ listing g ask ++ drop m before

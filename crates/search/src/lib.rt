@@ -7,7 +7,7 @@ ghost use Rattle.lists.specs.Listing.{listed};
 ghost use Rattle.lists.specs.Placing.{Adds};
 ghost use Rattle.search.specs.Found.{AddsFound};
 ghost use Rattle.search.specs.Start.{Searchable, Accepted, Candidates, Startable};
-ghost use Rattle.search.specs.Calls.{Lists};
+ghost use Rattle.search.specs.Calls.{Collects, Lists};
 
 mod branch;
 pub mod choice;
@@ -120,6 +120,21 @@ fn enumerate(rows: &[u64], k: usize, q: usize, cuts: Cuts, slots: &mut [u64]) ->
     enumerate_from(rows, k, q, cuts, all, sets::empty(), all, slots, 0)
 }
 
+// Puts every maximal k-plex of at least q members in the first slots, in rising order, where there is room for all of them, and counts them in any case.
+pub fn collect(rows: &[u64], request: Request, cuts: Cuts, slots: &mut [u64]) -> usize
+    requires { ⌜ Accepted (masks (now rows)) (asked request) ⌝ }
+    ensures { λ r. ⌜ Collects (masks (now (rows .entry))) (asked request) (masks (now (slots .entry))) (masks (now (slots .exit))) r ⌝ }
+{
+    let m = enumerate(rows, request.slack, request.floor, cuts, slots);
+    let room = sets::count(slots);
+    if room < m {
+        return m;
+    }
+    let end = sets::offset(slots, m);
+    lists::sort::sort(&mut slots[..end]);
+    m
+}
+
 // The list with the cuts that are switched on. The promise is that of `list`, whatever the setting.
 pub fn list_with(rows: &[u64], request: Request, cuts: Cuts, slots: &mut [u64]) -> ListFound
     ensures { λ r. ⌜ Lists (masks (now (rows .entry))) (asked request) (masks (now (slots .entry))) (masks (now (slots .exit))) r ⌝ }
@@ -128,14 +143,25 @@ pub fn list_with(rows: &[u64], request: Request, cuts: Cuts, slots: &mut [u64]) 
     if let Checked::Failed(f) = checked {
         return ListFound::Refused(f);
     }
-    let m = enumerate(rows, request.slack, request.floor, cuts, slots);
+    let m = collect(rows, request, cuts, slots);
     if sets::count(slots) < m {
         lists::place::clear(slots);
         return ListFound::Refused(Refusal::Slots(m));
     }
-    let end = sets::offset(slots, m);
-    lists::sort::sort(&mut slots[..end]);
     ListFound::Listed(m)
+}
+
+// The cuts that serve the list best: all but the second bound (docs/PERFORMANCE.md).
+pub fn usual() -> Cuts {
+    Cuts {
+        core: true,
+        reach: true,
+        pairs: true,
+        second: false,
+        parted: true,
+        extension: true,
+        pivot: true,
+    }
 }
 
 // Every maximal k-plex of at least q members of the graph with these rows, as masks in rising order, each once, for the slack k and the floor q of the request.
@@ -145,18 +171,5 @@ pub fn list_with(rows: &[u64], request: Request, cuts: Cuts, slots: &mut [u64]) 
 pub fn list(rows: &[u64], request: Request, slots: &mut [u64]) -> ListFound
     ensures { λ r. ⌜ Lists (masks (now (rows .entry))) (asked request) (masks (now (slots .entry))) (masks (now (slots .exit))) r ⌝ }
 {
-    list_with(
-        rows,
-        request,
-        Cuts {
-            core: true,
-            reach: true,
-            pairs: true,
-            second: false,
-            parted: true,
-            extension: true,
-            pivot: true,
-        },
-        slots,
-    )
+    list_with(rows, request, usual(), slots)
 }
