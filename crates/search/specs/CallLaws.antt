@@ -3,13 +3,12 @@
 use Prim.Native.Nat.{ℕ, _^_, _≤_, _<_}
 use native.Mathlib.Omega.{arith}
 use mathlib.Core.Path.{_≡_, sym, ap, _∙_}
-use mathlib.Core.List.{List, [], _∷_, _++_}
+use mathlib.Core.List.{List, _++_}
 use lib.ListN.{length, take, drop, replicate}
-use borrow.Author.Tests.{le-leb, lt-leb, lt-ltb, le-ltb}
+use borrow.Author.Tests.{le-leb, lt-leb}
 use Rattle.judging.specs.Request.{Request}
 use Rattle.judging.specs.Refusal.{refused, answered, firstOf}
-use Rattle.judging.specs.Calls.{refusal, numberOf, valueOf, passed, requestCheck}
-use Rattle.judging.specs.RefusalLaws.{first-append, first-holds, first-skips, first-refused, first-passed, vertices-accepted}
+use Rattle.judging.specs.Calls.{refusal, passed, requestCheck}
 use Rattle.judging.specs.RefusalLaws.{graph-sized, graph-checked, slack-graph, slack-accepted, request-slack, floor-accepted}
 use Rattle.judging.specs.declared.Refusal.{Refusal}
 use Rattle.judging.specs.declared.Refusal.the-variants.{Slots}
@@ -19,7 +18,8 @@ use Rattle.lists.specs.Order.{Sorts}
 use Rattle.lists.specs.Placing.{mostCount, Adds}
 use Rattle.lists.specs.PlacingLaws.{adds-all}
 use Rattle.search.specs.Start.{Accepted}
-use Rattle.search.specs.Calls.{slotsCause, listReply, placed, slotsAfter, Lists, Collects}
+use Rattle.search.specs.Calls.{listReply, placed, slotsAfter, Lists, Collects}
+use Rattle.search.specs.RoomLaws.{room-refused, room-fits, room-short}
 use Rattle.search.specs.declared.ListFound.the-variants.{Listed, Refused}
 
 -- ---- slots that are given a list
@@ -50,30 +50,25 @@ module _ (g : List ℕ) (ask : Request) where
   unfolding listReply slotsAfter
   list-refused f slots e =
       record {
-        reply = sym (first-append (requestCheck g ask) _ _ ∙ first-refused (requestCheck g ask) (numberOf f) (valueOf f) _ e);
+        reply = sym (room-refused (requestCheck g ask) _ _ e);
         slots = rw e;
       }
 
   -- ---- a request that passes
 
   module _ (e : firstOf (requestCheck g ask) passed ≡ passed) where
-    -- the slots are looked at next
-    passed-reply : (room : ℕ) → listReply g ask room ≡ firstOf (slotsCause room (length (listing g ask)) ∷ []) (answered (length (listing g ask)) tt)
-    unfolding listReply
-    passed-reply room = first-append (requestCheck g ask) _ _ ∙ first-passed (requestCheck g ask) _ e
-
-    -- and then they are given the list
+    -- the slots are given the list
     passed-slots : (slots : List ℕ) → slotsAfter g ask slots ≡ placed (listing g ask) slots
     unfolding slotsAfter
     passed-slots slots = rw e
 
     pub reply-fits : (room : ℕ) → length (listing g ask) ≤ room → listReply g ask room ≡ answered (length (listing g ask)) tt
-    unfolding slotsCause firstOf
-    reply-fits room l = passed-reply room ∙ first-skips (slotsCause room _) [] _ (le-ltb room _ l)
+    unfolding listReply
+    reply-fits room l = room-fits (requestCheck g ask) (length (listing g ask)) room e l
 
     pub reply-short : (room : ℕ) → room < length (listing g ask) → listReply g ask room ≡ refused 6 (length (listing g ask))
-    unfolding slotsCause
-    reply-short room l = passed-reply room ∙ first-holds (slotsCause room _) [] _ (lt-ltb room _ l)
+    unfolding listReply
+    reply-short room l = room-short (requestCheck g ask) (length (listing g ask)) room e l
 
     pub slots-fits : (slots : List ℕ) → length (listing g ask) ≤ length slots
         → slotsAfter g ask slots ≡ listing g ask ++ drop (length (listing g ask)) slots

@@ -1,6 +1,7 @@
 -- What the call that lists answers, and what it leaves in the slots, for every input.
 --
 --   slotsCause room m        number 6: fewer slots than m
+--   roomReply cs m room      the answer of a call that m slots are needed for, once its other causes cs have passed: m
 --   listReply g ask room     the answer to the request ask: refused, or m, the number of maximal k-plexes of at least q members
 --   placed l slots           the slots that are given the list l: l and behind it what they held, or all 0 where it does not fit
 --   slotsAfter g ask slots   the slots at exit: as they were where the request is refused, else given the list
@@ -22,11 +23,12 @@ use Rattle.search.specs.declared.ListFound.the-variants.{Listed, Refused
 unfoldable pub slotsCause : ℕ → ℕ → Cause
 slotsCause room m = cause (ltb room m) 6 m
 
+abbrev pub roomReply : List Cause → ℕ → ℕ → Reply (Unit {0})
+roomReply cs m room = firstOf (cs ++ slotsCause room m ∷ []) (answered m tt)
+
 -- 1, 2, 3, 4, 5, 6
 unfoldable pub listReply : List ℕ → Request → ℕ → Reply (Unit {0})
-listReply g ask room =
-    let m = length (listing g ask) in
-    firstOf (requestCheck g ask ++ slotsCause room m ∷ []) (answered m tt)
+listReply g ask room = roomReply (requestCheck g ask) (length (listing g ask)) room
 
 unfoldable pub placed : List ℕ → List ℕ → List ℕ
 placed l slots = cond (leb (length l) (length slots)) (l ++ drop (length l) slots) (replicate (length slots) 0)

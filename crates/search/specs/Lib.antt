@@ -14,6 +14,7 @@ pub mod SiftLaws
 pub mod Ready
 pub mod ReadyLaws
 pub mod Calls
+pub mod RoomLaws
 pub mod Cliques
 pub mod CliqueLaws
 pub mod SweepLaws

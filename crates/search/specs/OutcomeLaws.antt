@@ -2,68 +2,37 @@
 -- every number of slots will do. Refusals of the request have the numbers 1 to 5, so number 6 comes from a request that passed its checks.
 use Prim.Native.Nat.{ℕ, _≤_, _<_}
 use native.Mathlib.Omega.{arith}
-use native.Mathlib.Decide.{decLt}
-use mathlib.Core.Path.{_≡_, refl, sym, ap, _∙_, subst}
-use mathlib.Core.Bool.{Bool, true, false, not, _&&_, cond}
-use mathlib.Core.List.{List, [], _∷_, _++_, List·Memᴰ·not-nil}
-use lib.Dec.{T, eqb, eqb-refl, T-not}
+use mathlib.Core.Path.{_≡_, sym, ap, _∙_, subst}
+use mathlib.Core.List.{List, [], _++_, List·Memᴰ·not-nil}
+use lib.Dec.{T}
 use lib.ListN.{length, take, drop, replicate}
 use lib.Seq.{take-at, drop-at, drop-length}
-use borrow.Author.Tests.{ltb-false}
-use Rattle.sets.specs.RangeLaws.{Mem, and-left, and-right}
+use Rattle.sets.specs.RangeLaws.{Mem}
 use Rattle.judging.specs.Request.{Request}
-use Rattle.judging.specs.Refusal.{Reply, refused, answered, Cause, firstOf, vertexCause, slackCause, floorCause, rowCause, edgeCause, graphCauses}
+use Rattle.judging.specs.Refusal.{refused, answered, firstOf, vertexCause, slackCause, floorCause, rowCause, edgeCause, graphCauses}
 use Rattle.judging.specs.Calls.{passed, requestCheck}
-use Rattle.judging.specs.RefusalLaws.{first-append, answered-passed, answered-value, passed-front, passed-back, passed-head}
 use Rattle.lists.specs.Listing.{listing, Listed}
 use Rattle.sets.specs.KeepLaws.{Rising}
 use Rattle.lists.specs.ListingLaws.{listing-rising, listing-sound, listing-complete, floor-above}
-use Rattle.search.specs.Calls.{slotsCause, listReply, slotsAfter}
-use Rattle.search.specs.CallLaws.{reply-fits, reply-short, slots-fits, slots-short}
-
--- ---- a refusal whose number is none of a check's
-
-lacks : ℕ → List Cause → Bool
-lacks n [] = true
-lacks n (c ∷ cs) = not (eqb (c .number) n) && lacks n cs
-
-other-number : {A : Type 0} (cs : List Cause) (r : Reply A) {n v : ℕ} → T (lacks n cs) → firstOf cs r ≡ refused n v → firstOf cs passed ≡ passed
-unfolding firstOf lacks
-other-number [] r o e = refl
-other-number (c ∷ cs) r {n} {v} o e = go (c .holds) e (other-number cs r (and-right (not (eqb (c .number) n)) (lacks n cs) o))
-  where
-    go : (h : Bool) → cond h (refused (c .number) (c .value)) (firstOf cs r) ≡ refused n v → (firstOf cs r ≡ refused n v → firstOf cs passed ≡ passed)
-        → cond h (refused (c .number) (c .value)) (firstOf cs passed) ≡ passed
-    go true q ih =
-        let same : c .number ≡ n = cc in
-        absurd (T-not (eqb (c .number) n) (and-left (not (eqb (c .number) n)) (lacks n cs) o)
-        (subst (λ (x : ℕ). T (eqb (c .number) x)) same (eqb-refl (c .number))))
-    go false q ih = ih q
+use Rattle.search.specs.Calls.{listReply, slotsAfter}
+use Rattle.search.specs.RoomLaws.{lacks, room-accepted, room-value, room-enough, six-accepted, six-value, six-room}
+use Rattle.search.specs.CallLaws.{reply-fits, slots-fits, slots-short}
 
 module _ (g : List ℕ) (ask : Request) where
   -- ---- m is answered
 
-  abbrev causes : ℕ → List Cause
-  causes room = requestCheck g ask ++ slotsCause room (length (listing g ask)) ∷ []
-
   module _ (room : ℕ) {m : ℕ} (e : listReply g ask room ≡ answered m tt) where
-    none-holds : firstOf (causes room) passed ≡ passed
-    unfolding listReply
-    none-holds = answered-passed (causes room) (length (listing g ask)) m tt tt e
-
     pub list-accepted : firstOf (requestCheck g ask) passed ≡ passed
-    list-accepted = passed-front (requestCheck g ask) (slotsCause room (length (listing g ask)) ∷ []) none-holds
+    unfolding listReply
+    list-accepted = room-accepted (requestCheck g ask) _ room e
 
     pub list-count : m ≡ length (listing g ask)
     unfolding listReply
-    list-count = answered-value (causes room) (length (listing g ask)) tt e
+    list-count = room-value (requestCheck g ask) _ room e
 
     pub list-room : m ≤ room
-    unfolding slotsCause
-    list-room =
-        let n = length (listing g ask) in
-        let last = passed-back (requestCheck g ask) (slotsCause room n ∷ []) none-holds in
-        omega (arith, list-count, ltb-false room n (passed-head (slotsCause room n) [] last))
+    unfolding listReply
+    list-room = room-enough (requestCheck g ask) (length (listing g ask)) room e
 
   -- the first m slots hold the list, and the others keep what they held
   module _ (slots : List ℕ) {m : ℕ} (e : listReply g ask (length slots) ≡ answered m tt) where
@@ -92,28 +61,25 @@ module _ (g : List ℕ) (ask : Request) where
   -- ---- number 6
 
   module _ (slots : List ℕ) {m : ℕ} (e : listReply g ask (length slots) ≡ refused 6 m) where
-    pub short-accepted : firstOf (requestCheck g ask) passed ≡ passed
-    unfolding listReply requestCheck graphCauses vertexCause slackCause floorCause rowCause edgeCause lacks
-    short-accepted =
-        let n = length (listing g ask) in
-        let last = slotsCause (length slots) n ∷ [] in
-        other-number (requestCheck g ask) (firstOf last (answered n tt)) tt (sym (first-append (requestCheck g ask) last (answered n tt)) ∙ e)
+    -- none of the request's causes has number 6
+    no-six : T (lacks 6 (requestCheck g ask))
+    unfolding requestCheck graphCauses vertexCause slackCause floorCause rowCause edgeCause lacks
+    no-six = tt
 
-    short : (m ≡ length (listing g ask)) × (length slots < m)
-    short = go (decLt (length slots) (length (listing g ask)))
-      where
-        go : Dec (length slots < length (listing g ask)) → (m ≡ length (listing g ask)) × (length slots < m)
-        go (yes l) = let n : m ≡ length (listing g ask) = cc (reply-short g ask short-accepted (length slots) l) in (n, omega arith)
-        go (no l) = let z : _≡_ {A = ℕ} 0 1 = cc (reply-fits g ask short-accepted (length slots) (omega arith)) in absurd (omega arith)
+    pub short-accepted : firstOf (requestCheck g ask) passed ≡ passed
+    unfolding listReply
+    short-accepted = six-accepted (requestCheck g ask) _ (length slots) no-six e
 
     pub short-count : m ≡ length (listing g ask)
-    short-count = short .0
+    unfolding listReply
+    short-count = six-value (requestCheck g ask) _ (length slots) no-six e
 
     pub short-room : length slots < m
-    short-room = short .1
+    unfolding listReply
+    short-room = six-room (requestCheck g ask) (length (listing g ask)) (length slots) no-six e
 
     pub short-slots : slotsAfter g ask slots ≡ replicate (length slots) 0
-    short-slots = slots-short g ask short-accepted slots (omega (arith, short))
+    short-slots = slots-short g ask short-accepted slots (omega (arith, short-count, short-room))
 
   -- ---- m is 0: any number of slots is accepted, none included, and they are left
 
