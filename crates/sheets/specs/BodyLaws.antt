@@ -6,11 +6,11 @@ use mathlib.Core.Bool.{Bool, _||_}
 use mathlib.Core.List.{List, _++_}
 use lib.Dec.{T, ltb}
 use borrow.Author.Tests.{lt-ltb, le-ltb}
-use lib.ListN.{length, take, drop, length-append, length-drop, length-replicate}
-use lib.Seq.{take-at, length-take-le}
+use lib.ListN.{length, take, drop, length-drop, length-replicate}
+use lib.Seq.{length-take-le}
 use Rattle.sets.specs.Words.{perSet, width, masks}
 use Rattle.sets.specs.Words.Groups.{blank}
-use Rattle.sets.specs.Words.Masks.{count-masks, lent-length, blank-masks}
+use Rattle.sets.specs.Words.Masks.{count-masks, lent-length, front-part, blank-masks}
 use Rattle.judging.specs.Refusal.{refused, firstOf, graphCauses}
 use Rattle.judging.specs.Calls.{passed}
 use Rattle.judging.specs.Setting.{Sized}
@@ -70,21 +70,12 @@ pub taken-lines : (n : ℕ) {end : ℕ} → end ≡ n * perSet → (ws t : List 
 taken-lines n {end} at ws t l h e = subst (λ (m : ℕ). RowLines m t) (sym (lent-length ws n end at l)) (record { most = h; right = e })
 
 module _ (xs ys : List ℕ) {end : ℕ} (e : length xs ≡ end) where
-  pub front-fits : end ≤ length (xs ++ ys)
-  front-fits = omega (arith, length-append xs ys)
-
-  front-rows : take end (xs ++ ys) ≡ xs
-  front-rows = take-at xs ys end e
-
-  pub front-length : end ≡ length (take end (xs ++ ys))
-  front-length = sym (ap length front-rows ∙ e)
-
   pub front-judged : {g : List ℕ} → masks xs ≡ g → firstOf (graphCauses (masks (take end (xs ++ ys)))) passed ≡ firstOf (graphCauses g) passed
-  front-judged h = ap (λ (ms : List ℕ). firstOf (graphCauses ms) passed) (ap masks front-rows ∙ h)
+  front-judged h = ap (λ (ms : List ℕ). firstOf (graphCauses ms) passed) (ap masks (front-part xs ys e) ∙ h)
 
   pub front-sized : (n : ℕ) → end ≡ n * perSet → 1 ≤ n → n ≤ width → Sized (masks (take end (xs ++ ys)))
   front-sized n at l h =
-      let long : length (masks (take end (xs ++ ys))) ≡ n = ap (λ (ws : List ℕ). length (masks ws)) front-rows ∙ omega (arith, at, e, count-masks xs) in
+      let long : length (masks (take end (xs ++ ys))) ≡ n = ap (λ (ws : List ℕ). length (masks ws)) (front-part xs ys e) ∙ omega (arith, at, e, count-masks xs) in
       record { some = omega arith; most = omega arith }
 
 -- a blank table has a row for each vertex

@@ -10,7 +10,7 @@ use borrow.Author.Tests.{lt-ltb, le-ltb}
 use lib.Dec.{ltb}
 use lib.Pow.{pow-pos}
 use lib.ListN.{length, take, drop, length-take, length-drop, length-append, length-replicate, drop-of-length-le}
-use lib.Seq.{take-all, length-take-le}
+use lib.Seq.{take-all, take-at, length-take-le}
 use Rattle.sets.specs.Set.{minus, without, full}
 use Rattle.sets.specs.SubsetLaws.{minus-none}
 use Rattle.sets.specs.declared.Set.{Set}
@@ -85,6 +85,17 @@ module _ (ws : List ℕ) (n end : ℕ) (e : end ≡ n * perSet) where
       ap (λ (t : List ℕ). masks (take end ws ++ t)) (ap (λ (t : List ℕ). part ++ t) none ∙ append-nil part)
       ∙ append-masks n (take end ws) part (length-take-le end ws (offset-fits n end ws e l) ∙ e)
       ∙ ap (λ (t : List ℕ). t ++ masks part) (lent-before l)
+
+-- words that came back stand in front of the others
+module _ (xs ys : List ℕ) {end : ℕ} (e : length xs ≡ end) where
+  pub front-fits : end ≤ length (xs ++ ys)
+  front-fits = omega (arith, length-append xs ys)
+
+  pub front-part : take end (xs ++ ys) ≡ xs
+  front-part = take-at xs ys end e
+
+  pub front-length : end ≡ length (take end (xs ++ ys))
+  front-length = sym (ap length front-part ∙ e)
 
 -- ---- blank words, and numbers as sets
 

@@ -9,11 +9,11 @@ use lib.ListN.{length, drop}
 use lib.Seq.{length-take-le}
 use Rattle.sets.specs.Words.{perSet, width, masks}
 use Rattle.sets.specs.Words.Groups.{blank}
-use Rattle.sets.specs.Words.Masks.{offset-fits, lent-length}
+use Rattle.sets.specs.Words.Masks.{offset-fits, lent-length, front-fits, front-length}
 use Rattle.sheets.specs.Lines.{numbers}
 use Rattle.sheets.specs.Sheet.{rowDigits}
 use Rattle.sheets.specs.BodyLaws.{line-refused, all-right, after-refused, lines-accepted, table-fits, taken-lines}
-use Rattle.sheets.specs.BodyLaws.{front-fits, front-length, front-sized, front-judged}
+use Rattle.sheets.specs.BodyLaws.{front-sized, front-judged}
 use Rattle.sheets.proofs.body.check_body.Statement.{statement}
 use Rattle.sheets.proofs.body.check_body.Tie as tie
 
