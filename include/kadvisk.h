@@ -19,16 +19,19 @@
  *         9  the buffer for rows or text is too short                   the length needed
  *        10  s and v are no k-plex, v is not in c, or s and c overlap   0
  *        11  the forced set is no k-plex                                0
+ *        12  a and b are the same vertex                                0
+ *        13  the edge is already so                                     0
  *
- * A refusal leaves every buffer as it was, but for 6, which makes all slots 0. Nothing is allocated or kept between calls, and calls may run at the same
- * time on other buffers. The caller sees to it that a pointer is not null, is aligned, and has as many elements behind it as the length after it says
- * (which may be 0); and that a buffer that is written overlaps no other.
+ * A refusal leaves every buffer as it was, but for 6 of the list, which makes all slots 0; 6 of a change leaves the rows and the slots. Nothing is
+ * allocated or kept between calls, and calls may run at the same time on other buffers. The caller sees to it that a pointer is not null, is aligned, and
+ * has as many elements behind it as the length after it says (which may be 0); and that a buffer that is written overlaps no other.
  *
  * Link with libkadvisk.a (x86-64 Linux). All calls are proved: for every input what they answer, what the buffers then hold, and that they end.
  */
 #ifndef KADVISK_H
 #define KADVISK_H
 
+#include <stdbool.h>
 #include <stddef.h>
 #include <stdint.h>
 
@@ -90,6 +93,13 @@ enum {
 /* The same list, by a search with just these cuts switched on. It is there to measure the cuts: the answer is the same for every word of flags, and only
  * the time differs. kadvisk_list has all of them on but KADVISK_SECOND. Other bits are not looked at. */
 kadvisk_outcome kadvisk_list_with(const uint64_t *rows, size_t n, size_t slack, size_t floor, uint64_t flags, uint64_t *slots, size_t room);
+
+/* A change of a book. A book is a graph, a slack, a floor and their list, in the caller's rows and slots; kadvisk_list opens it. The change makes a and b
+ * adjacent, or not adjacent, as `adjacent` says. Value: m, the number of masks in the new list. Row a then has b, and row b has a, or both lack them, and
+ * the other rows are as before. The first m slots hold the list of the changed graph, made afresh: nothing is taken from what the slots held. The later
+ * ones keep it. Refusals, in this order: 1, 2, 3, 4, 5, of the book as it lies there; 7 where a or b is n or above, 12, 13 where they are adjacent, or
+ * not, already; 6 with the exact new m where there are fewer slots. Each leaves the rows and the slots as they were, 6 too. */
+kadvisk_outcome kadvisk_change(uint64_t *rows, size_t n, size_t slack, size_t floor, size_t a, size_t b, bool adjacent, uint64_t *slots, size_t room);
 
 /* The largest k-plex that holds all vertices of the set `forced`, which may be empty; there is no floor. Value: its size. Found: of the k-plexes of that
  * size that hold them all the lowest mask; it is a maximal k-plex. Refusals, in this order: 1, 2, 4, 5, 7, 11. */

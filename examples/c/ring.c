@@ -1,7 +1,8 @@
 /* Five vertices in a ring: tells how loose a set is, takes the core, lists the maximal 2-plexes of three or more vertices, finds the largest that
- * holds a vertex, and writes and reads the sheet. */
+ * holds a vertex, keeps the list in a book while an edge is added, and writes and reads the sheet. */
 #include <inttypes.h>
 #include <stdio.h>
+#include <string.h>
 
 #include "kadvisk.h"
 
@@ -35,6 +36,17 @@ int main(void) {
     /* 08 forces vertex 3 */
     kadvisk_outcome largest = kadvisk_largest(ring, 5, 2, 0x08);
     printf("largest 2-plex with vertex 3: %02" PRIX64 ", size %zu\n", largest.found, largest.value);
+
+    /* a book: the ring in rows that may change, and its list; 0 and 2 become adjacent, and a second time that is refused */
+    memcpy(rows, ring, sizeof ring);
+    list = kadvisk_list(rows, 5, 2, 3, slots, 8);
+    kadvisk_outcome change = kadvisk_change(rows, 5, 2, 3, 0, 2, true, slots, 8);
+    printf("before %zu, with the edge 0-2 %zu\n", list.value, change.value);
+    for (size_t i = 0; i < change.value; i++) {
+        printf("%02" PRIX64 "\n", slots[i]);
+    }
+    change = kadvisk_change(rows, 5, 2, 3, 0, 2, true, slots, 8);
+    refusal(change.number, change.value);
 
     kadvisk_outcome sheet = kadvisk_write_sheet(ring, 5, 2, 3, text, sizeof text);
     fwrite(text, 1, sheet.value, stdout);

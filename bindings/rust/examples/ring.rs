@@ -1,4 +1,5 @@
-//! Five vertices in a ring: tells how loose a set is, takes the core, lists the maximal 2-plexes of three or more vertices, and finds the largest with a given vertex.
+//! Five vertices in a ring: tells how loose a set is, takes the core, lists the maximal 2-plexes of three or more vertices, finds the largest with a given
+//! vertex, and keeps the list in a book while an edge is added.
 
 fn main() -> Result<(), kadvisk::Refusal> {
     let ring = [0x12, 0x05, 0x0A, 0x14, 0x09];
@@ -9,6 +10,15 @@ fn main() -> Result<(), kadvisk::Refusal> {
     }
     let largest = kadvisk::largest(&ring, 2, 0x08)?;
     println!("largest 2-plex with vertex 3: {:02X}, size {}", largest.mask, largest.size);
+    let (mut rows, mut slots) = (ring, [0; 8]);
+    let mut book = kadvisk::Book::open(&mut rows, 2, 3, &mut slots)?;
+    println!("with the edge 0-2: {}", book.change(0, 2, true)?);
+    for mask in book.list() {
+        println!("{mask:02X}");
+    }
+    if let Err(refusal) = book.change(0, 2, true) {
+        println!("R{:02} {:016X}: {refusal}", refusal.number(), refusal.value());
+    }
     if let Err(refusal) = kadvisk::list(&ring, 33, 64, &mut []) {
         println!("R{:02} {:016X}: {refusal}", refusal.number(), refusal.value());
     }

@@ -15,6 +15,8 @@
 //! assert_eq!(slots[..m], [0x07, 0x0E, 0x13, 0x19, 0x1C]);
 //! # Ok::<(), kadvisk::Refusal>(())
 //! ```
+//!
+//! A [`Book`] keeps the list of a graph through changes of its edges.
 
 pub mod ffi;
 
@@ -33,7 +35,8 @@ pub enum Refusal {
     Row(usize),
     /// 5: this row, the lowest such, has a vertex whose row lacks it.
     OneWay(usize),
-    /// 6: there are fewer slots than maximal k-plexes to list, of which there are this many. All slots are now 0.
+    /// 6: there are fewer slots than maximal k-plexes to list, of which there are this many. The list makes all slots 0, and a change leaves the rows and
+    /// the slots.
     Slots(usize),
     /// 7: a set, or a single vertex, reaches n or above.
     Outside,
@@ -45,10 +48,14 @@ pub enum Refusal {
     Bound,
     /// 11: the forced set is no k-plex.
     Forced,
+    /// 12: a and b are the same vertex.
+    Loop,
+    /// 13: the edge is already so: a and b are adjacent, or not, as was asked.
+    Unchanged,
 }
 
 impl Refusal {
-    /// The refusal of this number and value; none where the number is not 1 to 11.
+    /// The refusal of this number and value; none where the number is not 1 to 13.
     pub fn new(number: usize, value: usize) -> Option<Refusal> {
         Some(match number {
             1 => Refusal::Vertices,
@@ -62,11 +69,13 @@ impl Refusal {
             9 => Refusal::Room(value),
             10 => Refusal::Bound,
             11 => Refusal::Forced,
+            12 => Refusal::Loop,
+            13 => Refusal::Unchanged,
             _ => return None,
         })
     }
 
-    /// The number of this refusal, 1 to 11.
+    /// The number of this refusal, 1 to 13.
     pub fn number(self) -> usize {
         match self {
             Refusal::Vertices => 1,
@@ -80,6 +89,8 @@ impl Refusal {
             Refusal::Room(_) => 9,
             Refusal::Bound => 10,
             Refusal::Forced => 11,
+            Refusal::Loop => 12,
+            Refusal::Unchanged => 13,
         }
     }
 
@@ -106,6 +117,8 @@ impl fmt::Display for Refusal {
             Refusal::Room(n) => write!(f, "the buffer is too short: {n} are needed"),
             Refusal::Bound => write!(f, "s and v are no k-plex, v is not in c, or s and c overlap"),
             Refusal::Forced => write!(f, "the forced set is no k-plex"),
+            Refusal::Loop => write!(f, "a and b are the same vertex"),
+            Refusal::Unchanged => write!(f, "the edge is already so"),
         }
     }
 }
@@ -263,6 +276,87 @@ pub fn list_all(rows: &[u64], slack: usize, floor: usize) -> Result<Vec<u64>, Re
     let mut slots = vec![0; count(rows, slack, floor)?];
     list(rows, slack, floor, &mut slots)?;
     Ok(slots)
+}
+
+/// Makes `a` and `b` adjacent, or not adjacent, as `adjacent` says, in the rows of a book: a graph, a slack, a floor and their list, which [`list`]
+/// opens. The first slots then hold the list of the changed graph, made afresh, whatever they held, and its number m is given. Other rows and later
+/// slots keep what they held. A [`Book`] has all this in one object.
+///
+/// Refusals, in this order: 1, 2, 3, 4, 5 of the book, 7 where `a` or `b` is n or above, 12, 13, and 6 with the exact new m where there are fewer
+/// slots. Each leaves the rows and the slots as they were, 6 too.
+///
+/// ```
+/// let mut rows = [0x12, 0x05, 0x0A, 0x14, 0x09];
+/// let mut slots = [0; 8];
+/// kadvisk::list(&rows, 2, 3, &mut slots)?;
+/// let m = kadvisk::change(&mut rows, 2, 3, 0, 2, true, &mut slots)?;
+/// assert_eq!(rows, [0x16, 0x05, 0x0B, 0x14, 0x09]);
+/// assert_eq!(slots[..m], [0x07, 0x0E, 0x13, 0x1D]);
+/// assert_eq!(kadvisk::change(&mut rows, 2, 3, 0, 2, true, &mut slots), Err(kadvisk::Refusal::Unchanged));
+/// # Ok::<(), kadvisk::Refusal>(())
+/// ```
+pub fn change(rows: &mut [u64], slack: usize, floor: usize, a: usize, b: usize, adjacent: bool, slots: &mut [u64]) -> Result<usize, Refusal> {
+    valued(unsafe { ffi::kadvisk_change(rows.as_mut_ptr(), rows.len(), slack, floor, a, b, adjacent, slots.as_mut_ptr(), slots.len()) })
+}
+
+/// A graph, a slack, a floor and their list, in the caller's rows and slots: the list is kept through changes of the edges.
+///
+/// ```
+/// // five vertices in a ring, slack 2, floor 3; then 0 and 2 are made adjacent
+/// let mut rows = [0x12, 0x05, 0x0A, 0x14, 0x09];
+/// let mut slots = [0; 8];
+/// let mut book = kadvisk::Book::open(&mut rows, 2, 3, &mut slots)?;
+/// assert_eq!(book.list(), [0x07, 0x0E, 0x13, 0x19, 0x1C]);
+/// book.change(0, 2, true)?;
+/// assert_eq!(book.list(), [0x07, 0x0E, 0x13, 0x1D]);
+/// # Ok::<(), kadvisk::Refusal>(())
+/// ```
+#[derive(Debug)]
+pub struct Book<'a> {
+    rows: &'a mut [u64],
+    slack: usize,
+    floor: usize,
+    slots: &'a mut [u64],
+    listed: usize,
+}
+
+impl<'a> Book<'a> {
+    /// Opens a book: the first slots become the list of the graph, as [`list`] makes it.
+    ///
+    /// Refusals, in this order: 1, 2, 3, 4, 5, which leave the slots, and 6, which makes all slots 0.
+    pub fn open(rows: &'a mut [u64], slack: usize, floor: usize, slots: &'a mut [u64]) -> Result<Book<'a>, Refusal> {
+        let listed = list(rows, slack, floor, slots)?;
+        Ok(Book { rows, slack, floor, slots, listed })
+    }
+
+    /// Makes `a` and `b` adjacent, or not adjacent, as `adjacent` says, and gives the number of masks in the new list.
+    ///
+    /// Refusals, in this order: 7, 12, 13, 6. Each leaves the book as it was: its graph, and its list.
+    ///
+    /// ```
+    /// # let mut rows = [0x12, 0x05, 0x0A, 0x14, 0x09];
+    /// # let mut slots = [0; 8];
+    /// let mut book = kadvisk::Book::open(&mut rows, 2, 3, &mut slots)?;
+    /// assert_eq!(book.change(0, 1, true), Err(kadvisk::Refusal::Unchanged));
+    /// assert_eq!(book.change(0, 2, true), Ok(4));
+    /// assert_eq!(book.change(0, 2, false), Ok(5));
+    /// assert_eq!(book.list(), [0x07, 0x0E, 0x13, 0x19, 0x1C]);
+    /// # Ok::<(), kadvisk::Refusal>(())
+    /// ```
+    pub fn change(&mut self, a: usize, b: usize, adjacent: bool) -> Result<usize, Refusal> {
+        self.listed = change(self.rows, self.slack, self.floor, a, b, adjacent, self.slots)?;
+        Ok(self.listed)
+    }
+
+    /// The list: every maximal k-plex of at least the floor's members, as masks in rising order.
+    pub fn list(&self) -> &[u64] {
+        &self.slots[..self.listed]
+    }
+
+    /// The graph as it is now.
+    pub fn rows(&self) -> &[u64] {
+        self.rows
+    }
 }
 
 /// The largest k-plex that holds all vertices of `forced`, and of the k-plexes of that size that hold them all the one with the lowest mask, which is a

@@ -1,8 +1,11 @@
 //! The safe functions: what they make of outcomes and refusals.
-use kadvisk::{Cuts, Heading, Largest, Refusal};
+use kadvisk::{Book, Cuts, Heading, Largest, Refusal};
 
 const RING: [u64; 5] = [0x12, 0x05, 0x0A, 0x14, 0x09];
 const LIST: [u64; 5] = [0x07, 0x0E, 0x13, 0x19, 0x1C];
+/// The ring in which 0 and 2 are adjacent, and its list.
+const CHORD: [u64; 5] = [0x16, 0x05, 0x0B, 0x14, 0x09];
+const CHORD_LIST: [u64; 4] = [0x07, 0x0E, 0x13, 0x1D];
 
 #[test]
 fn questions() {
@@ -32,8 +35,54 @@ fn lists() {
     assert_eq!(kadvisk::list_with(&RING, 2, 3, off, &mut slots), Ok(5));
     assert_eq!(slots[..5], LIST);
     assert_eq!(kadvisk::list_with(&RING, 2, 3, Cuts::default(), &mut slots[..4]), Err(Refusal::Slots(5)));
-    assert_eq!((off.flags(), Cuts::default().flags(), Cuts { second: true, ..off }.flags(), Cuts { pivot: true, ..off }.flags()), (0, 1 + 2 + 4 + 16 + 32 + 64, 8, 64));
+    assert_eq!(
+        (off.flags(), Cuts::default().flags(), Cuts { second: true, ..off }.flags(), Cuts { pivot: true, ..off }.flags()),
+        (0, 1 + 2 + 4 + 16 + 32 + 64, 8, 64)
+    );
     assert_eq!(slots, [0, 0, 0, 0, 0x1C, 9, 9]);
+}
+
+#[test]
+fn changes() {
+    let (mut rows, mut slots) = (RING, [9; 6]);
+    assert_eq!(kadvisk::change(&mut rows, 2, 3, 2, 0, true, &mut slots), Ok(4));
+    assert_eq!((rows, slots), (CHORD, [0x07, 0x0E, 0x13, 0x1D, 9, 9]));
+    assert_eq!(kadvisk::change(&mut rows, 2, 3, 0, 2, true, &mut slots), Err(Refusal::Unchanged));
+    assert_eq!(kadvisk::change(&mut rows, 2, 3, 0, 2, false, &mut slots[..4]), Err(Refusal::Slots(5)));
+    assert_eq!((rows, slots), (CHORD, [0x07, 0x0E, 0x13, 0x1D, 9, 9]));
+    assert_eq!(kadvisk::change(&mut rows, 2, 3, 0, 2, false, &mut slots), Ok(5));
+    assert_eq!((rows, slots), (RING, [0x07, 0x0E, 0x13, 0x19, 0x1C, 9]));
+}
+
+#[test]
+fn books() {
+    let (mut rows, mut slots) = (RING, [9; 5]);
+    let mut book = Book::open(&mut rows, 2, 3, &mut slots).unwrap();
+    assert_eq!((book.rows(), book.list()), (&RING[..], &LIST[..]));
+    assert_eq!(book.change(0, 2, true), Ok(4));
+    assert_eq!((book.rows(), book.list()), (&CHORD[..], &CHORD_LIST[..]));
+    for (a, b, adjacent, refusal) in
+        [(0, 5, true, Refusal::Outside), (5, 5, true, Refusal::Outside), (3, 3, false, Refusal::Loop), (2, 0, true, Refusal::Unchanged)]
+    {
+        assert_eq!(book.change(a, b, adjacent), Err(refusal));
+        assert_eq!((book.rows(), book.list()), (&CHORD[..], &CHORD_LIST[..]));
+    }
+    assert_eq!(book.change(2, 0, false), Ok(5));
+    assert_eq!((book.rows(), book.list()), (&RING[..], &LIST[..]));
+    assert_eq!((rows, slots), (RING, LIST));
+}
+
+#[test]
+fn a_book_with_too_few_slots() {
+    let (mut rows, mut slots) = (CHORD, [9; 4]);
+    let mut book = Book::open(&mut rows, 2, 3, &mut slots).unwrap();
+    assert_eq!(book.change(0, 2, false), Err(Refusal::Slots(5)));
+    assert_eq!((book.rows(), book.list()), (&CHORD[..], &CHORD_LIST[..]));
+    assert_eq!(Book::open(&mut rows, 2, 3, &mut slots[..3]).err(), Some(Refusal::Slots(4)));
+    assert_eq!((rows, slots), (CHORD, [0, 0, 0, 0x1D]));
+    rows[1] |= 1 << 1;
+    assert_eq!(Book::open(&mut rows, 2, 3, &mut slots).err(), Some(Refusal::Row(1)));
+    assert_eq!(slots, [0, 0, 0, 0x1D]);
 }
 
 #[test]
@@ -72,11 +121,13 @@ fn refusals() {
         (kadvisk::write_sheet(&RING, 2, 3, &mut text), Refusal::Room(92)),
         (kadvisk::first_bound(&RING, 2, 1, 1, 0), Refusal::Bound),
         (kadvisk::largest(&RING, 1, 0x05).map(|_| 0), Refusal::Forced),
+        (kadvisk::change(&mut RING.clone(), 2, 3, 0, 0, true, &mut []), Refusal::Loop),
+        (kadvisk::change(&mut RING.clone(), 2, 3, 0, 1, true, &mut []), Refusal::Unchanged),
     ] {
         assert_eq!(answer, Err(refusal));
         assert_eq!(Refusal::new(refusal.number(), refusal.value()), Some(refusal));
         assert!(!refusal.to_string().is_empty());
     }
     assert_eq!(Refusal::new(0, 0), None);
-    assert_eq!(Refusal::new(12, 0), None);
+    assert_eq!(Refusal::new(14, 0), None);
 }
