@@ -33,6 +33,10 @@ pub fn list_with(rows: &[u64], k: usize, q: usize, flags: u64, slots: &mut [u64]
     unsafe { ffi::kadvisk_list_with(rows.as_ptr(), rows.len(), k, q, flags, slots.as_mut_ptr(), slots.len()) }
 }
 
+pub fn change(rows: &mut [u64], k: usize, q: usize, a: usize, b: usize, adjacent: bool, slots: &mut [u64]) -> Outcome {
+    unsafe { ffi::kadvisk_change(rows.as_mut_ptr(), rows.len(), k, q, a, b, adjacent, slots.as_mut_ptr(), slots.len()) }
+}
+
 pub fn largest(rows: &[u64], k: usize, forced: u64) -> Outcome {
     unsafe { ffi::kadvisk_largest(rows.as_ptr(), rows.len(), k, forced) }
 }

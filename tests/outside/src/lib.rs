@@ -7,10 +7,12 @@
 //!   fp         the list by the published algorithm (Dai and others; degeneracy seeds, excluded set, second bound)
 //!   cliques    the list for slack 1 by Bron and Kerbosch with Tomita's pivot
 //!   largest    the largest k-plex that holds forced vertices, by trying all sets and by 003's algorithm
+//!   book       what a change of a book owes: outcome, rows and slots
 //!   words      sets in a word, for the fast ones
 //!   instances  graphs of our own making
 //!   calls      the exported calls on slices
 //!   cases      inputs that several tests share
+pub mod book;
 pub mod brute;
 pub mod calls;
 pub mod cases;

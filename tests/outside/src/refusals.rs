@@ -50,6 +50,12 @@ pub fn request(rows: &[u64], k: usize, q: usize) -> Refused {
     vertices(rows.len()).or_else(|| slack(k)).or_else(|| floor(k, q)).or_else(|| edges(rows))
 }
 
+/// 1, 2, 3, 4, 5, 7, 12, 13: of a change, before its list is made and its slots are looked at.
+pub fn change(rows: &[u64], k: usize, q: usize, a: usize, b: usize, to_be: bool) -> Refused {
+    let outside = || when(a >= rows.len() || b >= rows.len(), 7, 0);
+    request(rows, k, q).or_else(outside).or_else(|| when(a == b, 12, 0)).or_else(|| when(adjacent(rows, a, b) == to_be, 13, 0))
+}
+
 /// 1, 4, 5, 7: of the reach.
 pub fn reach(rows: &[u64], v: usize) -> Refused {
     vertices(rows.len()).or_else(|| edges(rows)).or_else(|| when(v >= rows.len(), 7, 0))

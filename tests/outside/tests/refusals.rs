@@ -1,5 +1,6 @@
 //! Every refusal of every call, with its value, its place in the order, and the buffers it leaves.
 use kadvisk::ffi::Outcome;
+use outside::book::{Book, Change};
 use outside::calls::*;
 use outside::cases::{damage, faulty_rows, first_of, floor, graph, many, slack, subset};
 use outside::instances::Rng;
@@ -30,7 +31,7 @@ fn set(rng: &mut Rng, n: usize) -> u64 {
     }
 }
 
-struct Tally([usize; 12]);
+struct Tally([usize; 14]);
 
 impl Tally {
     /// Holds an outcome to the refusal that is owed, or to what is found.
@@ -41,13 +42,13 @@ impl Tally {
 
     fn all_of(&self, numbers: &[usize]) {
         println!("outcomes by number: {:?}", self.0);
-        assert!((0..12).all(|number| (self.0[number] > 10) == numbers.contains(&number)), "{:?}", self.0);
+        assert!((0..14).all(|number| (self.0[number] > 10) == numbers.contains(&number)), "{:?}", self.0);
     }
 }
 
 #[test]
 fn judging() {
-    let (mut rng, mut loose, mut maximal) = (Rng(30), Tally([0; 12]), Tally([0; 12]));
+    let (mut rng, mut loose, mut maximal) = (Rng(30), Tally([0; 14]), Tally([0; 14]));
     for _ in 0..many(20_000) {
         let (rows, k) = (table(&mut rng), slack(&mut rng));
         let s = set(&mut rng, rows.len());
@@ -60,7 +61,7 @@ fn judging() {
 
 #[test]
 fn core_and_reach() {
-    let (mut rng, mut cores, mut reaches) = (Rng(31), Tally([0; 12]), Tally([0; 12]));
+    let (mut rng, mut cores, mut reaches) = (Rng(31), Tally([0; 14]), Tally([0; 14]));
     for _ in 0..many(20_000) {
         let (rows, k) = (table(&mut rng), slack(&mut rng));
         let q = floor(&mut rng, k);
@@ -74,7 +75,7 @@ fn core_and_reach() {
 
 #[test]
 fn bounds() {
-    let (mut rng, mut tally) = (Rng(32), Tally([0; 12]));
+    let (mut rng, mut tally) = (Rng(32), Tally([0; 14]));
     for _ in 0..many(20_000) {
         let (rows, k) = (table(&mut rng), slack(&mut rng));
         let (s, c) = (set(&mut rng, rows.len()) & set(&mut rng, rows.len()), set(&mut rng, rows.len()));
@@ -89,7 +90,7 @@ fn bounds() {
 
 #[test]
 fn lists() {
-    let (mut rng, mut tally) = (Rng(33), Tally([0; 12]));
+    let (mut rng, mut tally) = (Rng(33), Tally([0; 14]));
     for _ in 0..many(10_000) {
         let (mut rows, k) = (table(&mut rng), slack(&mut rng));
         rows.truncate(if rng.chance(0.9) { 24 } else { 200 });
@@ -122,9 +123,44 @@ fn lists() {
     tally.all_of(&[0, 1, 2, 3, 4, 5, 6]);
 }
 
+/// A number for a vertex: one of the graph, mostly.
+fn vertex(rng: &mut Rng, n: usize) -> usize {
+    match rng.below(20) {
+        0 => [n, n + 1, 63, 64, 65, usize::MAX][rng.below(6)],
+        _ => rng.below(n.max(1)),
+    }
+}
+
+#[test]
+fn changes() {
+    let (mut rng, mut tally) = (Rng(36), Tally([0; 14]));
+    for _ in 0..many(20_000) {
+        let (mut rows, k) = (table(&mut rng), slack(&mut rng));
+        rows.truncate(if rng.chance(0.9) { 24 } else { 200 });
+        if rng.chance(0.8) {
+            let n = rows.len();
+            rows.iter_mut().for_each(|row| *row &= (1u64 << n.min(63)) - 1);
+        }
+        let q = floor(&mut rng, k);
+        let (a, b, adjacent) = (vertex(&mut rng, rows.len()), vertex(&mut rng, rows.len()), rng.chance(0.5));
+        let owed = refusals::change(&rows, k, q, a, b, adjacent);
+        if owed.is_none() && rows.len() > 24 {
+            continue;
+        }
+        let slots = (0..rng.below(30)).map(|i| GARBAGE + i as u64).collect();
+        let mut book = Book { rows, slack: k, floor: q, slots };
+        let (outcome, after) = book.owed(Change { a, b, adjacent }, outside::fp::list);
+        let told = when(outcome.number != 0, outcome.number, outcome.value);
+        assert!(owed.is_none() || owed == told);
+        tally.hold(book.change(Change { a, b, adjacent }), told, || outcome);
+        assert_eq!(book, after, "a change leaves what it does not name, and a refusal leaves all");
+    }
+    tally.all_of(&[0, 1, 2, 3, 4, 5, 6, 7, 12, 13]);
+}
+
 #[test]
 fn largest_plexes() {
-    let (mut rng, mut tally) = (Rng(35), Tally([0; 12]));
+    let (mut rng, mut tally) = (Rng(35), Tally([0; 14]));
     for _ in 0..many(10_000) {
         let (mut rows, k) = (table(&mut rng), slack(&mut rng));
         rows.truncate(if rng.chance(0.9) { 16 } else { 200 });
@@ -147,7 +183,7 @@ fn largest_plexes() {
 
 #[test]
 fn writing() {
-    let (mut rng, mut tally) = (Rng(34), Tally([0; 12]));
+    let (mut rng, mut tally) = (Rng(34), Tally([0; 14]));
     for _ in 0..many(10_000) {
         let (rows, k) = (table(&mut rng), slack(&mut rng));
         let q = floor(&mut rng, k);
