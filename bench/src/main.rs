@@ -1,13 +1,14 @@
 //! Times the library on graphs of our own making: with each cut switched, against independent implementations, what placing costs, how the time
-//! grows, and the largest k-plex.
+//! grows, the largest k-plex, and changes of a book.
 //! Prints tables in Markdown. One command:
 //!
 //!   cargo run --release --offline --package bench
 //!
-//!   bench --part NAME     cuts, placing, growth or largest alone, or wide: many instances of other kinds
-//!   bench --only NAME     the rows of one graph in the tables of cuts and of the largest k-plex
+//!   bench --part NAME     cuts, placing, growth, largest or changes alone, or wide: many instances of other kinds
+//!   bench --only NAME     the rows of one graph in the tables of cuts, of the largest k-plex and of changes
 //!   bench --rivals        the table of cuts with the independent implementations alone
 //!   bench --limit S       leave a run that takes more than S seconds (3)
+mod changes;
 mod clock;
 mod largest;
 mod rows;
@@ -223,6 +224,10 @@ fn main() {
         largest::one(&arguments);
         return;
     }
+    if let Some(row) = after("--changes") {
+        changes::one(row.parse().expect("a row"));
+        return;
+    }
     let limit = Duration::from_secs(after("--limit").map_or(3, |s| s.parse().expect("seconds")));
     let part = |name| after("--part").is_none_or(|part| part == name);
     if part("cuts") {
@@ -236,6 +241,9 @@ fn main() {
     }
     if part("largest") {
         largest::all(after("--only"), limit);
+    }
+    if part("changes") {
+        changes::all(after("--only"), limit);
     }
     if after("--part") == Some("wide") {
         wide::all();
