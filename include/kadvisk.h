@@ -95,10 +95,10 @@ enum {
 kadvisk_outcome kadvisk_list_with(const uint64_t *rows, size_t n, size_t slack, size_t floor, uint64_t flags, uint64_t *slots, size_t room);
 
 /* A change of a book. A book is a graph, a slack, a floor and their list, in the caller's rows and slots; kadvisk_list opens it. The change makes a and b
- * adjacent, or not adjacent, as `adjacent` says. Value: m, the number of masks in the new list. Row a then has b, and row b has a, or both lack them, and
- * the other rows are as before. The first m slots hold the list of the changed graph, made afresh: nothing is taken from what the slots held. The later
- * ones keep it. Refusals, in this order: 1, 2, 3, 4, 5, of the book as it lies there; 7 where a or b is n or above, 12, 13 where they are adjacent, or
- * not, already; 6 with the exact new m where there are fewer slots. Each leaves the rows and the slots as they were, 6 too. */
+ * adjacent, or not adjacent, as `adjacent` says. Value: m, the number of masks in the new list. Row a then has b, and row b has a, or neither has, and
+ * the other rows are as before. The first m slots hold the list of the changed graph, made afresh, whatever they held, and the later ones keep what they
+ * held. Refusals, in this order: 1, 2, 3, 4, 5, of the book as it lies there; 7 where a or b is n or above; 12; 13 where they are adjacent, or not,
+ * already; and 6 with the exact new m where there are fewer slots. Each leaves the rows and the slots as they were, 6 too. */
 kadvisk_outcome kadvisk_change(uint64_t *rows, size_t n, size_t slack, size_t floor, size_t a, size_t b, bool adjacent, uint64_t *slots, size_t room);
 
 /* The largest k-plex that holds all vertices of the set `forced`, which may be empty; there is no floor. Value: its size. Found: of the k-plexes of that

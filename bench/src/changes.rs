@@ -68,7 +68,7 @@ impl Case {
         let changing = || self.change(&mut rows.borrow_mut(), &mut slots.borrow_mut());
         let listing = || self.list(&graphs, &mut slots.borrow_mut());
         assert_eq!(listing(), changing());
-        let (time, ratios) = turns(2, 3000.0, |at| if at == 0 { listing() } else { changing() });
+        let (time, ratios) = turns(2, 1500.0, |at| if at == 0 { listing() } else { changing() });
         assert_eq!(*rows.borrow(), self.rows);
         (most, time / graphs.len() as f64, ratios[1])
     }

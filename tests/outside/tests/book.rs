@@ -45,7 +45,7 @@ fn some_change(rng: &mut Rng, rows: &[u64]) -> Change {
     Change::of(rows, a, b)
 }
 
-/// A graph of 8 to 64 vertices, a slack and a floor, such that the list is short, and stays so after some changes.
+/// A graph of 8 to 64 vertices, a slack and a floor, such that the list stays short through some changes.
 fn short_case(rng: &mut Rng) -> (Vec<u64>, usize, usize) {
     let (n, k, seed) = (if rng.chance(0.3) { 64 } else { rng.between(8, 64) }, rng.between(1, 4), rng.word());
     let p = [0.4, 0.25, 0.12, 0.08][k - 1] * rng.unit();
