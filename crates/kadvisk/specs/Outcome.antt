@@ -3,7 +3,7 @@
 --   outcome found reply     the number, the value and what was found; of a refusal nothing is found, and that is 0
 --   yesNo, itself, nothing  what is found as a number: 1 for yes and 0 for no; a looseness, a set's mask or a bound; 0 where the value says all
 --   readOutcome reply       the same of a sheet that is read, with its n, k and q; of a refusal these are 0
---   ListOutcome, ..         the outcome and the lent buffer at exit, as the promise of the call that lists, that reads a sheet, or that writes one
+--   ListOutcome, ..         the outcome and the lent buffers at exit, as the promise of the call that lists, changes a book, reads a sheet or writes one
 use Prim.Native.Nat.{ℕ}
 use mathlib.Core.Path.{_≡_}
 use mathlib.Core.Bool.{Bool, cond}
@@ -12,6 +12,8 @@ use lib.ListN.{length}
 use Rattle.judging.specs.Request.{Request}
 use Rattle.judging.specs.Refusal.{Reply, replyNumber, replyValue, foundIn}
 use Rattle.search.specs.Calls.{listReply, slotsAfter}
+use Rattle.books.specs.Book.{Change}
+use Rattle.books.specs.Calls.{changeReply, rowsChanged, slotsChanged}
 use Rattle.sheets.specs.Calls.{Heading, headingOf}
 use Rattle.sheets.specs.Sheet.{sheetText, reading, writing, rowsAfter, textAfter}
 use Rattle.kadvisk.specs.declared.Outcome.{Outcome}
@@ -44,6 +46,12 @@ readOutcome r =
 pub record ListOutcome (g : List ℕ) (ask : Request) (before after : List ℕ) (r : Outcome) : Type 0 where
   pub answer : r ≡ outcome nothing (listReply g ask (length before))
   pub slots : after ≡ slotsAfter g ask before
+
+-- h are the rows at exit
+pub record ChangeOutcome (g : List ℕ) (ask : Request) (c : Change) (before h after : List ℕ) (r : Outcome) : Type 0 where
+  pub answer : r ≡ outcome nothing (changeReply g ask c (length before))
+  pub rows : h ≡ rowsChanged g ask c (length before)
+  pub slots : after ≡ slotsChanged g ask c before
 
 pub record ReadSheetOutcome (text before after : List ℕ) (r : ReadOutcome) : Type 0 where
   pub answer : r ≡ readOutcome (headingOf (reading text (length before)))

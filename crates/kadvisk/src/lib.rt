@@ -7,7 +7,8 @@ ghost use Rattle.judging.specs.Calls.{loosenessReply, maximalReply};
 ghost use Rattle.bounds.specs.Calls.{coreReply, reachReply};
 ghost use Rattle.bounds.specs.BoundCalls.{firstBoundReply, secondBoundReply};
 ghost use Rattle.largest.specs.Calls.{largestReply};
-ghost use Rattle.kadvisk.specs.Outcome.{outcome, yesNo, itself, ListOutcome, ReadSheetOutcome, WriteSheetOutcome};
+ghost use Rattle.books.specs.Book.{change};
+ghost use Rattle.kadvisk.specs.Outcome.{outcome, yesNo, itself, ListOutcome, ChangeOutcome, ReadSheetOutcome, WriteSheetOutcome};
 
 mod answer;
 
@@ -112,6 +113,27 @@ pub extern "C" fn kadvisk_list(
     ensures { λ r. ⌜ ListOutcome (masks (now (rows .entry))) (request slack floor) (masks (now (slots .entry))) (masks (now (slots .exit))) r ⌝ }
 {
     let found = search::list(rows, Request { slack, floor }, slots);
+    answer::listed(found)
+}
+
+// Makes the vertices a and b adjacent, or not adjacent, in the book of these rows, slack, floor and slots: a graph with its list, which kadvisk_list opened.
+// Nothing is taken from the slots. Value: m, the length of the list of the changed graph; both rows are changed, the first m slots hold the list, and the later
+// ones keep what they held. Refusals: 1, 2, 3, 4, 5, 7, 12 where a and b are the same, 13 where the edge is already so, and 6 with the exact m; each leaves rows
+// and slots as they were.
+#[no_mangle]
+pub extern "C" fn kadvisk_change(
+    rows: &mut [u64],
+    slack: usize,
+    floor: usize,
+    a: usize,
+    b: usize,
+    adjacent: bool,
+    slots: &mut [u64],
+) -> Outcome
+    ensures { λ r. ⌜ ChangeOutcome (masks (now (rows .entry))) (request slack floor) (change a b adjacent) (masks (now (slots .entry)))
+        (masks (now (rows .exit))) (masks (now (slots .exit))) r ⌝ }
+{
+    let found = books::change(rows, Request { slack, floor }, a, b, adjacent, slots);
     answer::listed(found)
 }
 
