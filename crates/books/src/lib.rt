@@ -13,8 +13,13 @@ use judging::Refusal;
 use judging::Request;
 use search::ListFound;
 
-// How many sets a list may have that is made in memory of its own, so that one search both counts and finds it.
+// The lists that are made in memory of their own, so that one search both counts and finds them: up to so many sets. A small graph has a short list and less
+// memory, since emptying it would take longer than the search.
 const HELD: usize = 4096;
+
+const HELD_SMALL: usize = 512;
+
+const SMALL: usize = 12;
 
 // Gives the slots the list of the graph, where they have room for it, and its length in any case. The list is made in `held` first; only one that is
 // longer than that is searched for once more.
@@ -33,11 +38,23 @@ fn renew_by(rows: &[u64], request: Request, held: &mut [u64], slots: &mut [u64])
     m
 }
 
-// The same with memory of its own.
+// The same with memory of its own, for a small graph.
+fn renew_small(rows: &[u64], request: Request, slots: &mut [u64]) -> usize
+    requires { ⌜ Accepted (masks (now rows)) (asked request) ⌝ }
+    ensures { λ r. ⌜ Renews (masks (now (rows .entry))) (asked request) (masks (now (slots .entry))) (masks (now (slots .exit))) r ⌝ }
+{
+    let mut held = [0u64; HELD_SMALL * sets::WORDS];
+    renew_by(rows, request, &mut held, slots)
+}
+
+// The same for any graph.
 fn renew(rows: &[u64], request: Request, slots: &mut [u64]) -> usize
     requires { ⌜ Accepted (masks (now rows)) (asked request) ⌝ }
     ensures { λ r. ⌜ Renews (masks (now (rows .entry))) (asked request) (masks (now (slots .entry))) (masks (now (slots .exit))) r ⌝ }
 {
+    if sets::count(rows) <= SMALL {
+        return renew_small(rows, request, slots);
+    }
     let mut held = [0u64; HELD * sets::WORDS];
     renew_by(rows, request, &mut held, slots)
 }
