@@ -5,3 +5,4 @@ pub mod EdgeLaws
 pub mod CallLaws
 pub mod Season
 pub mod OutcomeLaws
+pub mod Edges

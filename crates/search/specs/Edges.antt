@@ -23,7 +23,7 @@ use Rattle.lists.specs.Listing.{listed, listing}
 
 -- ---- the graphs
 
-ring5 : List ℕ
+unfoldable pub ring5 : List ℕ
 ring5 = 0x12 ∷ 0x05 ∷ 0x0A ∷ 0x14 ∷ 0x09 ∷ []
 
 ring4 : List ℕ
@@ -53,13 +53,13 @@ pub shown : Reply ℕ → List ℕ
 shown (refused n v) = n ∷ v ∷ []
 shown (answered v x) = 0 ∷ v ∷ x ∷ []
 
-agree : List ℕ → List ℕ → Bool
+unfoldable pub agree : List ℕ → List ℕ → Bool
 agree [] [] = true
 agree [] (y ∷ ys) = false
 agree (x ∷ xs) [] = false
 agree (x ∷ xs) (y ∷ ys) = eqb x y && agree xs ys
 
-pub hold : List Edge → Bool
+unfoldable pub hold : List Edge → Bool
 hold [] = true
 hold (edge a b ∷ es) = agree a b && hold es
 

@@ -1,8 +1,8 @@
 -- What is asked for is compared with the bit of b in the row of a.
+use Prim.Native.Nat.{ℕ}
 use mathlib.Core.Path.{_≡_, ap, _∙_}
 use mathlib.Core.Bool.{Bool, true, false, not}
 use mathlib.Core.List.{List}
-use Prim.Native.Nat.{ℕ}
 use borrow.Author.Needs.{needs}
 use Rattle.sets.specs.Set.{has}
 use Rattle.sets.specs.Graph.{row}

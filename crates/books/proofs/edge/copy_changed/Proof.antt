@@ -1,16 +1,13 @@
 -- The table holds the graph once it is copied, and then the changed one.
-use native.Mathlib.Nat.{le-refl, le-of-eq}
-use mathlib.Core.Path.{_≡_, sym, ap, ap₂, _∙_, subst}
-use mathlib.Core.List.{List, _++_, append-nil}
 use Prim.Native.Nat.{ℕ}
+use native.Mathlib.Nat.{le-of-eq}
+use mathlib.Core.Path.{_≡_, sym, ap₂, _∙_}
+use mathlib.Core.List.{List, _++_, append-nil}
 use borrow.Author.Needs.{needs}
 use denote.Ref.{now}
 use lib.ListN.{length, take, drop, drop-of-length-le}
 use lib.Seq.{take-all}
 use Rattle.sets.specs.Words.{masks}
-use Rattle.judging.specs.Setting.{Sized}
-use Rattle.books.specs.Book.{Change, changedGraph}
-use Rattle.books.specs.Calls.{Changeable}
 use Rattle.books.proofs.edge.copy_changed.Statement.{statement}
 use Rattle.books.proofs.edge.copy_changed.Tie as tie
 

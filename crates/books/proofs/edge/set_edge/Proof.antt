@@ -1,13 +1,12 @@
 -- Both rows are read, and then both are stored: the two stores are those of the definition.
-use native.Mathlib.Omega.{arith}
-use mathlib.Core.Path.{_≡_, ap, ap₂, _∙_}
-use mathlib.Core.List.{List}
 use Prim.Native.Nat.{ℕ}
+use native.Mathlib.Omega.{arith}
+use mathlib.Core.Path.{_≡_}
+use mathlib.Core.List.{List}
 use borrow.Author.Needs.{needs}
 use denote.Ref.{now}
 use lib.ListN.{set}
 use Rattle.sets.specs.Graph.{row}
-use Rattle.sets.specs.Words.{masks}
 use Rattle.sets.specs.Words.Masks.{count-masks}
 use Rattle.books.specs.Book.{Change, turned, changedGraph}
 use Rattle.books.proofs.edge.set_edge.Statement.{statement}
