@@ -55,7 +55,8 @@ returns-2 c =
 set-edge-requires : tie.Need-set-edge-requires
 set-edge-requires c κs =
     let passed = checks-passed (listed (c .before .before)) in
-    (change-accepted _ _ _ passed .sized, change-changeable _ _ _ passed)
+    let able = change-changeable _ _ _ passed in
+    (change-accepted _ _ _ passed .sized, able .one, able .other)
 
 returns-3 : tie.Need-returns-3
 returns-3 c =

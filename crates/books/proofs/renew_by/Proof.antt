@@ -1,4 +1,4 @@
--- The list is made in memory of its own and copied; where it does not fit there, it is made again in the slots. Slots that are too few are not touched.
+-- The list is made in memory of its own and copied; where it does not fit there, it is made again in the slots.
 use Prim.Native.Nat.{ℕ, _≤_}
 use native.Mathlib.Omega.{arith}
 use mathlib.Core.List.{List}
@@ -10,6 +10,10 @@ use Rattle.sets.specs.Words.Masks.{count-masks}
 use Rattle.books.specs.CallLaws.{renews-short, renews-copied, renews-again}
 use Rattle.books.proofs.renew_by.Statement.{statement}
 use Rattle.books.proofs.renew_by.Tie as tie
+
+-- slots that are too few are not touched
+returns : tie.Need-returns
+returns c = renews-short (c .before .before .before .before .before .collect .ensures) (omega (arith, c .if1 .taken, c .before .count .ensures))
 
 -- ---- places: the list is made, it fits the slots, it fits the memory of its own
 
@@ -32,9 +36,6 @@ held-fits : (c : tie.Else2) → length-of (roomy c) ≤ length (masks (made (roo
 held-fits c = omega (arith, c .if2 .left, c .before .count2 .ensures)
 
 -- ---- the needs
-
-returns : tie.Need-returns
-returns c = renews-short (c .before .before .before .before .before .collect .ensures) (omega (arith, c .if1 .taken, c .before .count .ensures))
 
 returns-2 : tie.Need-returns-2
 returns-2 c =

@@ -49,7 +49,7 @@ slice-aggregate-copy-changed c = sym (length-take-le (end (c .before)) table (lo
 copy-changed-requires : tie.Need-copy-changed-requires
 copy-changed-requires c κs =
     let at = c .before in
-    (start at .pre .0 .sized, start at .pre .1, lent-length table (length (rows at)) (end at) (at-end at) (room at))
+    (start at .pre .0 .sized, start at .pre .1 .one, start at .pre .1 .other, lent-length table (length (rows at)) (end at) (at-end at) (room at))
 
 -- the table once the graph is made: its front, and what stands behind it
 abbrev lent : tie.After-copy-changed → tie.After-offset

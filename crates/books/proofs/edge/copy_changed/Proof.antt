@@ -20,12 +20,12 @@ abbrev start : tie.After-copy → tie.Start
 start c = c .before .before .before .before .before
 
 copied : (c : tie.After-copy) → masks (c .copy .last .1 .1 .0) ≡ masks (now (start c .args .rows))
-copied c = c .copy .ensures ∙ all-copied _ _ (c .before .before .count .ensures) (start c .pre .2)
+copied c = c .copy .ensures ∙ all-copied _ _ (c .before .before .count .ensures) (start c .pre .3)
 
 set-edge-requires : tie.Need-set-edge-requires
 set-edge-requires c κs =
     let at = c .before .before .before in
-    rw (copied at) (start at .pre .0, start at .pre .1)
+    rw (copied at) (start at .pre .0, start at .pre .1, start at .pre .2)
 
 returns : tie.Need-returns
 returns c =

@@ -21,7 +21,7 @@ put-requires-2 : tie.Need-put-requires-2
 put-requires-2 c κs =
     let put = c .before .before .before in
     let start = put .before .before .before .before .before .before .before .before .before in
-    omega (arith, start .pre .1 .other, count-masks (put .put .last .0), count-masks (now (start .args .rows)), put .put .kept .0)
+    omega (arith, start .pre .2, count-masks (put .put .last .0), count-masks (now (start .args .rows)), put .put .kept .0)
 
 returns : tie.Need-returns
 returns c =
