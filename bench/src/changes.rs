@@ -2,12 +2,48 @@
 use crate::rows::{Row, ROWS};
 use crate::{apart, count_apart, turns};
 use outside::book::Change;
-use outside::instances::Rng;
+use outside::instances::{ring, Rng};
 use std::cell::RefCell;
 use std::time::Duration;
 
 /// Up to so many masks a change lists in one way, and above in another.
 const FEW: usize = 4096;
+
+const fn small(name: &'static str, graph: fn() -> Vec<u64>, k: usize, q: usize) -> Row {
+    Row { name, graph, k, q }
+}
+
+/// Small graphs beside those of the table of cuts: where listing takes less than a microsecond, what a change does beside the search shows.
+const SMALL: [Row; 12] = [
+    small("ring 3", || ring(3), 1, 1),
+    small("ring 5", || ring(5), 1, 1),
+    small("ring 5", || ring(5), 2, 3),
+    small("ring 8", || ring(8), 1, 1),
+    small("ring 8", || ring(8), 2, 3),
+    small("ring 14", || ring(14), 1, 1),
+    small("ring 14", || ring(14), 2, 3),
+    small("ring 15", || ring(15), 1, 1),
+    small("ring 15", || ring(15), 2, 3),
+    small("ring 24", || ring(24), 1, 1),
+    small("ring 24", || ring(24), 2, 3),
+    small("ring 64", || ring(64), 1, 1),
+];
+
+fn row(at: usize) -> &'static Row {
+    if at < ROWS.len() {
+        return &ROWS[at];
+    }
+    &SMALL[at - ROWS.len()]
+}
+
+/// How many masks a row's list has: none where counting takes longer than the limit.
+fn masks(at: usize, limit: Duration) -> Option<usize> {
+    if at < ROWS.len() {
+        return count_apart(at, 0, limit);
+    }
+    let Row { graph, k, q, .. } = row(at);
+    Some(kadvisk::count(&graph(), *k, *q).expect("a valid graph"))
+}
 
 /// A row's graph and the changes that are timed: of an edge and of a pair that is none, each with the change back, so that the graph is the same in the end.
 struct Case {
@@ -76,21 +112,21 @@ impl Case {
 
 /// What a row gives, in this process.
 pub fn one(at: usize) {
-    let (most, time, ratio) = Case::of(&ROWS[at]).times();
+    let (most, time, ratio) = Case::of(row(at)).times();
     println!("{most} {time} {ratio}");
 }
 
 /// Prints a row of the table, with what it gives in a process of its own. None where counting takes longer than the limit.
 fn line(at: usize, limit: Duration) -> Option<Line> {
-    let Row { name, k, q, .. } = ROWS[at];
+    let Row { name, k, q, .. } = row(at);
     print!("| {name} | {k} | {q} |");
-    let Some(m) = count_apart(at, 0, limit) else {
-        println!(" | > {} | |", limit.as_millis());
+    let Some(m) = masks(at, limit) else {
+        println!(" | > {} | |", limit.as_micros());
         return None;
     };
     let said = apart(&["--changes".into(), at.to_string()], Duration::MAX).expect("no limit");
     let numbers: Vec<f64> = said.split_whitespace().map(|word| word.parse().expect("a number")).collect();
-    println!(" {m} | {:.4} | {:.2} |", numbers[1], numbers[2]);
+    println!(" {m} | {:.2} | {:.2} |", numbers[1] * 1e3, numbers[2]);
     Some(Line { most: numbers[0] as usize, ratio: numbers[2] })
 }
 
@@ -104,13 +140,13 @@ fn summary(head: &str, ratios: &[f64]) {
     println!("| {head} | {} | {mean:.3} | {:.2} |", ratios.len(), ratios.iter().copied().fold(0.0, f64::max));
 }
 
-/// The table: each row of the table of cuts.
+/// The table: each row of the table of cuts, and small graphs.
 pub fn all(only: Option<&str>, limit: Duration) {
     println!("\n## Changes of a book\n");
     println!("The time of a change as a multiple of that of listing the same graph afresh, into as many slots: over a change of an edge and of a pair that is");
     println!("none, and the changes back. A row whose list takes more than {} s to count is left.\n", limit.as_secs());
-    println!("| graph | k | q | m | listing, ms | change |\n|---|---|---|---|---|---|");
-    let chosen = (0..ROWS.len()).filter(|&at| only.is_none_or(|name| ROWS[at].name == name));
+    println!("| graph | k | q | m | listing, µs | change |\n|---|---|---|---|---|---|");
+    let chosen = (0..ROWS.len() + SMALL.len()).filter(|&at| only.is_none_or(|name| row(at).name == name));
     let lines: Vec<Line> = chosen.filter_map(|at| line(at, limit)).collect();
     println!("\nThe ratios, by the longest list of a row:\n\n| masks | rows | geometric mean | greatest |\n|---|---|---|---|");
     for (head, chosen) in [(format!("up to {FEW}"), 0..FEW + 1), (format!("more than {FEW}"), FEW + 1..usize::MAX), ("any".into(), 0..usize::MAX)] {

@@ -17,9 +17,9 @@ use search::ListFound;
 // memory, since emptying it would take longer than the search.
 const HELD: usize = 4096;
 
-const HELD_SMALL: usize = 512;
+const HELD_SMALL: usize = 256;
 
-const SMALL: usize = 12;
+const SMALL: usize = 14;
 
 // Gives the slots the list of the graph, where they have room for it, and its length in any case. The list is made in `held` first; only one that is
 // longer than that is searched for once more.
@@ -83,7 +83,7 @@ fn renew_changed(
 // Outcome: m, the length of the new list; both rows are changed, the first m slots hold the list, and the later ones keep what they held.
 // Refusals: 1, 2, 3, 4, 5, 7, 12 where a and b are the same, 13 where the edge is already so, and 6 with the exact m where there are fewer slots than m.
 // Each leaves rows and slots as they were.
-// Cost: the checks and one search of the changed graph; two where its list has more than 4,096 sets.
+// Cost: the checks and one search of the changed graph; two where its list has more sets than memory is kept for: 4,096, and 256 up to 14 vertices.
 pub fn change(
     rows: &mut [u64],
     request: Request,
