@@ -63,8 +63,8 @@ module _ {a b : ℕ} {g h : List ℕ} (d : AlikeBut a b g h) (k s : ℕ) where
     alike-plex p v l i = omega (arith, missing-same v i, p v (omega (arith, l, d .long)) i)
 
 -- it is a k-plex in both graphs or in neither
-pub alike-test : {a b : ℕ} {g h : List ℕ} → AlikeBut a b g h → (k s : ℕ) → bit s a + bit s b ≤ 1 → plex h k s ≡ plex g k s
-alike-test {g = g} {h = h} d k s few =
+pub alike-same : {a b : ℕ} {g h : List ℕ} → AlikeBut a b g h → (k s : ℕ) → bit s a + bit s b ≤ 1 → plex h k s ≡ plex g k s
+alike-same {g = g} {h = h} d k s few =
     test-same (plex h k s) (plex g k s) (λ t. plex-test g k s (alike-plex (alike-sym d) k s few (plex-holds h k s t)))
     (λ t. plex-test h k s (alike-plex d k s few (plex-holds g k s t)))
 

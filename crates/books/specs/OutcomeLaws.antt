@@ -20,7 +20,7 @@ use Rattle.lists.specs.ListingLaws.{listing-rising, listing-sound, listing-comp
 use Rattle.search.specs.RoomLaws.{lacks, room-accepted, room-value, room-enough, six-accepted, six-value, six-room}
 use Rattle.books.specs.Book.{Change, changedGraph, opened, changed}
 use Rattle.books.specs.Calls.{loopCause, unchangedCause, pairCauses, changeCheck, changeReply, rowsChanged, slotsChanged, Changeable}
-use Rattle.books.specs.EdgeLaws.{alike-sym, alike-test, alike-listed, changed-alike, changed-valid, back, change-back}
+use Rattle.books.specs.EdgeLaws.{alike-sym, alike-same, alike-listed, changed-alike, changed-valid, back, change-back}
 use Rattle.books.specs.CallLaws.{change-accepted, change-changeable, change-new}
 
 module _ (g : List ℕ) (ask : Request) (c : Change) where
@@ -75,7 +75,7 @@ module _ (g : List ℕ) (ask : Request) (c : Change) where
 
     -- a set that does not hold both vertices is a k-plex in both graphs or in neither
     pub answer-plex : (k s : ℕ) → bit s (c .one) + bit s (c .other) ≤ 1 → plex h k s ≡ plex g k s
-    answer-plex k s few = alike-test (changed-alike able) k s few
+    answer-plex k s few = alike-same (changed-alike able) k s few
 
     -- a set that holds neither vertex is in both lists or in neither
     module _ (s : ℕ) (p : bit s (c .one) ≡ 0) (q : bit s (c .other) ≡ 0) where

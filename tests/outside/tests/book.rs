@@ -235,6 +235,19 @@ fn lists_of_4096_masks_at_slack_2_and_3() {
 }
 
 #[test]
+fn lists_of_256_masks_and_about_as_many_of_14_vertices() {
+    // up to 14 vertices the library keeps memory for 256 masks
+    let (mut rng, mut short, mut long) = (Rng(256), 0, 0);
+    for _ in 0..many(100) {
+        let (n, seed) = (rng.between(13, 15), rng.word());
+        let m = hold_long(&mut rng, &instances::random(n, 0.6, seed), 4, 7);
+        *(if m > 256 { &mut long } else { &mut short }) += 1;
+    }
+    println!("changes to {short} lists of up to 256 masks and to {long} longer ones, 13 to 15 vertices, k=4 q=7");
+    assert!(short > 20 && long > 20);
+}
+
+#[test]
 fn long_lists() {
     let mut rng = Rng(8);
     for (rows, k, q) in [
