@@ -137,33 +137,32 @@ module _ (g : List ℕ) (ask : Request) (c : Change) where
     pub change-short : length before < m → Changes g ask c before g after (Refused (Slots m))
     unfolding changeReply rowsChanged slotsChanged
     change-short l =
-        let r = room-short (changeCheck g ask c) (length (listing (changedGraph g c) ask)) (length before) e (omega (arith, l, x .counted)) in
-        record { reply = ap (refused 6) (x .counted) ∙ sym r; rows = rw r; slots = x .short l ∙ rw r }
+        let r = room-short (changeCheck g ask c) (length (listing (changedGraph g c) ask)) (length before) e (omega (arith, l, x .made .counted)) in
+        record { reply = ap (refused 6) (x .made .counted) ∙ sym r; rows = rw r; slots = x .short l ∙ rw r }
 
     pub change-fits : {h : List ℕ} → m ≤ length before → h ≡ changedGraph g c → Changes g ask c before h after (Listed m)
     unfolding changeReply rowsChanged slotsChanged
     change-fits l d =
-        let r = room-fits (changeCheck g ask c) (length (listing (changedGraph g c) ask)) (length before) e (omega (arith, l, x .counted)) in
+        let r = room-fits (changeCheck g ask c) (length (listing (changedGraph g c) ask)) (length before) e (omega (arith, l, x .made .counted)) in
         record {
-          reply = ap (λ (n : ℕ). answered n tt) (x .counted) ∙ sym r;
+          reply = ap (λ (n : ℕ). answered n tt) (x .made .counted) ∙ sym r;
           rows = d ∙ rw r;
-          slots = x .fits l ∙ rw (r, x .counted);
+          slots = x .made .fits l ∙ rw (r, x .made .counted);
         }
 
 -- ---- the list in the slots, by way of memory of its own
 
 module _ {g : List ℕ} {ask : Request} {held made : List ℕ} {m : ℕ} (x : Collects g ask held made m) {before : List ℕ} where
   pub renews-short : length before < m → Renews g ask before before m
-  renews-short l = record { counted = x .counted; fits = λ k. absurd (omega arith); short = λ k. refl }
+  renews-short l = record { made = record { counted = x .counted; fits = λ u. absurd (omega arith) }; short = λ u. refl }
 
   pub renews-copied : {after : List ℕ} → m ≤ length before → m ≤ length held → after ≡ take m made ++ drop m before → Renews g ask before after m
-  renews-copied l k e = record {
-    counted = x .counted;
-    fits = λ u.
-        e ∙ ap (λ (t : List ℕ). take m t ++ drop m before) (x .fits k)
-        ∙ ap (λ (t : List ℕ). t ++ drop m before) (take-at (listing g ask) (drop m held) m (sym (x .counted)));
-    short = λ u. absurd (omega arith);
-  }
+  renews-copied {after} l k e = record { made = record { counted = x .counted; fits = λ u. front }; short = λ u. absurd (omega arith) }
+    where
+      front : after ≡ listing g ask ++ drop m before
+      front =
+          e ∙ ap (λ (t : List ℕ). take m t ++ drop m before) (x .fits k)
+          ∙ ap (λ (t : List ℕ). t ++ drop m before) (take-at (listing g ask) (drop m held) m (sym (x .counted)))
 
   pub renews-again : {after : List ℕ} {r : ℕ} → m ≤ length before → Collects g ask before after r → Renews g ask before after r
-  renews-again l y = record { counted = y .counted; fits = y .fits; short = λ u. absurd (omega (arith, x .counted, y .counted)) }
+  renews-again l y = record { made = y; short = λ u. absurd (omega (arith, x .counted, y .counted)) }

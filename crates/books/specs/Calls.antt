@@ -7,8 +7,8 @@
 --   unlessRefused r old new    what a lent buffer then holds: of a refusal what it held
 --   Changes                    the answer, the rows and the slots, as the call's promise
 --   Changeable g c             what is known of a change that passes: two vertices of the graph, not the same
---   Renews                     the promise of the function below the call: m, and where the list fits, the slots given it; else these are left
-use Prim.Native.Nat.{ℕ, _≤_, _<_}
+--   Renews                     the promise of the function below the call: what is collected, and slots that are too few are left
+use Prim.Native.Nat.{ℕ, _<_}
 use mathlib.Core.Path.{_≡_}
 use mathlib.Core.Logic.{_≢_}
 use mathlib.Core.List.{List, [], _∷_, _++_}
@@ -17,8 +17,7 @@ use lib.ListN.{length, drop}
 use Rattle.judging.specs.Request.{Request}
 use Rattle.judging.specs.Refusal.{Reply, refused, answered, Cause, cause, vertexOutCause}
 use Rattle.judging.specs.Calls.{requestCheck}
-use Rattle.lists.specs.Listing.{listing}
-use Rattle.search.specs.Calls.{roomReply, listFoundReply}
+use Rattle.search.specs.Calls.{roomReply, listFoundReply, Collects}
 use Rattle.search.specs.declared.ListFound.{ListFound}
 use Rattle.books.specs.Book.{Change, alreadySo, opened, changed}
 
@@ -66,6 +65,5 @@ pub record Changeable (g : List ℕ) (c : Change) : Type 0 where
   pub apart : c .one ≢ c .other
 
 pub record Renews (g : List ℕ) (ask : Request) (before after : List ℕ) (m : ℕ) : Type 0 where
-  pub counted : m ≡ length (listing g ask)
-  pub fits : m ≤ length before → after ≡ listing g ask ++ drop m before
+  pub made : Collects g ask before after m
   pub short : length before < m → after ≡ before

@@ -1,5 +1,5 @@
--- Edges of a change (document 02, card 3), as one table that the checker computes: on the ring of five of document 01, what the definitions give, beside what is
--- due.
+-- Edges of a change (document 02, card 3), as one table that the checker computes: on the ring of five of document 01, what the definitions give, beside
+-- what is due.
 use Prim.Native.Nat.{ℕ}
 use mathlib.Core.Bool.{Bool, true, false}
 use mathlib.Core.List.{List, [], _∷_}

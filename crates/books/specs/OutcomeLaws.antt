@@ -1,5 +1,5 @@
--- What the answer of the call that changes a book means. An accepted change leaves the changed graph in the rows and its list in the slots; a refused one, number 6
--- too, leaves both. A set that holds neither vertex is listed before and after, or neither time; a change and the change back give the first list.
+-- What the answer of the call that changes a book means. An accepted change leaves the changed graph in the rows and its list in the slots; a refused one,
+-- number 6 too, leaves both. A set that holds neither vertex is listed before and after, or neither time; a change and the change back give the first list.
 use Prim.Native.Nat.{ℕ, _+_, _≤_, _<_}
 use mathlib.Core.Path.{_≡_, refl, sym, ap, _∙_, subst}
 use mathlib.Core.List.{List, _++_}

@@ -1,5 +1,5 @@
--- A season: changes called for one after the other, each with slots that may hold anything. The book keeps its list the list of its graph, by induction over the
--- sequence, and after each call the rows that were lent are the book's; after one that is answered the first slots are its list.
+-- A season: changes called for one after the other, each with slots that may hold anything. The book keeps its list the list of its graph, by induction over
+-- the sequence, and after each call the rows that were lent are the book's; after one that is answered the first slots are its list.
 --
 --   Turn           a change that is called for, and what the slots hold then
 --   answer k t     what the call answers where the lent rows are those of the book k

@@ -117,9 +117,9 @@ pub extern "C" fn kadvisk_list(
 }
 
 // Makes the vertices a and b adjacent, or not adjacent, in the book of these rows, slack, floor and slots: a graph with its list, which kadvisk_list opened.
-// Nothing is taken from the slots. Value: m, the length of the list of the changed graph; both rows are changed, the first m slots hold the list, and the later
-// ones keep what they held. Refusals: 1, 2, 3, 4, 5, 7, 12 where a and b are the same, 13 where the edge is already so, and 6 with the exact m; each leaves rows
-// and slots as they were.
+// Nothing is taken from the slots. Value: m, the length of the list of the changed graph; both rows are changed, the first m slots hold the list, and the
+// later ones keep what they held. Refusals: 1, 2, 3, 4, 5, 7, 12 where a and b are the same, 13 where the edge is already so, and 6 with the exact m; each
+// leaves rows and slots as they were.
 #[no_mangle]
 pub extern "C" fn kadvisk_change(
     rows: &mut [u64],

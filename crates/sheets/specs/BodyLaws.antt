@@ -75,7 +75,8 @@ module _ (xs ys : List ℕ) {end : ℕ} (e : length xs ≡ end) where
 
   pub front-sized : (n : ℕ) → end ≡ n * perSet → 1 ≤ n → n ≤ width → Sized (masks (take end (xs ++ ys)))
   front-sized n at l h =
-      let long : length (masks (take end (xs ++ ys))) ≡ n = ap (λ (ws : List ℕ). length (masks ws)) (front-part xs ys e) ∙ omega (arith, at, e, count-masks xs) in
+      let same = ap (λ (ws : List ℕ). length (masks ws)) (front-part xs ys e) in
+      let long : length (masks (take end (xs ++ ys))) ≡ n = same ∙ omega (arith, at, e, count-masks xs) in
       record { some = omega arith; most = omega arith }
 
 -- a blank table has a row for each vertex
