@@ -24,7 +24,8 @@
  *
  * A refusal leaves every buffer as it was, but for 6 of the list, which makes all slots 0; 6 of a change leaves the rows and the slots. Nothing is
  * allocated or kept between calls, and calls may run at the same time on other buffers. The caller sees to it that a pointer is not null, is aligned, and
- * has as many elements behind it as the length after it says (which may be 0); and that a buffer that is written overlaps no other.
+ * has as many elements behind it as the length after it says (which may be 0); and that a buffer that is written overlaps no other. A call takes some 24 KB
+ * of stack, and a change 56 KB.
  *
  * Link with libkadvisk.a (x86-64 Linux). All calls are proved: for every input what they answer, what the buffers then hold, and that they end.
  */
