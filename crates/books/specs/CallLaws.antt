@@ -26,7 +26,7 @@ use Rattle.search.specs.RoomLaws.{room-refused, room-fits, room-short}
 use Rattle.search.specs.declared.ListFound.the-variants.{Listed, Refused}
 use Rattle.books.specs.Book.{Change, alreadySo, changedGraph}
 use Rattle.books.specs.Calls.{loopCause, unchangedCause, pairCauses, changeCheck, changeReply, rowsChanged, slotsChanged, Changes, Changeable, Renews}
-use Rattle.books.specs.EdgeLaws.{changed-long, changed-valid}
+use Rattle.books.specs.EdgeLaws.{changed-length, changed-valid}
 
 -- ---- the two vertices: each cause once those before it do not hold
 
@@ -114,7 +114,7 @@ module _ (g : List ℕ) (ask : Request) (c : Change) where
 -- the changed graph can be searched
 pub changed-accepted : {g : List ℕ} {ask : Request} {c : Change} → Accepted g ask → Changeable g c → Accepted (changedGraph g c) ask
 changed-accepted x ok =
-    let n = changed-long ok in
+    let n = changed-length ok in
     record {
       sized = record { some = omega (arith, x .sized .some, n); most = omega (arith, x .sized .most, n) };
       valid = changed-valid ok (x .valid);

@@ -5,6 +5,7 @@
 --   changeCheck g ask c        the causes that are looked at before the new list, in their order
 --   changeReply g ask c room   the answer: refused, or m, the length of the new list
 --   unlessRefused r old new    what a lent buffer then holds: of a refusal what it held
+--   rowsChanged, slotsChanged  what the rows and the slots then hold
 --   Changes                    the answer, the rows and the slots, as the call's promise
 --   Changeable g c             what is known of a change that passes: two vertices of the graph, not the same
 --   Renews                     the promise of the function below the call: what is collected, and slots that are too few are left
@@ -43,7 +44,6 @@ abbrev pub unlessRefused : {A : Type 0} → Reply (Unit {0}) → A → A → A
 unlessRefused (refused n v) old new = old
 unlessRefused (answered v u) old new = new
 
--- the rows and the slots at exit
 unfoldable pub rowsChanged : List ℕ → Request → Change → ℕ → List ℕ
 rowsChanged g ask c room = unlessRefused (changeReply g ask c room) g (changed (opened g ask) c .rows)
 
@@ -52,6 +52,7 @@ slotsChanged g ask c slots =
     let l = changed (opened g ask) c .list in
     unlessRefused (changeReply g ask c (length slots)) slots (l ++ drop (length l) slots)
 
+-- h are the rows at exit
 pub record Changes (g : List ℕ) (ask : Request) (c : Change) (before h after : List ℕ) (r : ListFound) : Type 0 where
   pub reply : listFoundReply r ≡ changeReply g ask c (length before)
   pub rows : h ≡ rowsChanged g ask c (length before)

@@ -1,6 +1,6 @@
--- Laws of graphs that differ in one edge at most. The changed graph is such a one, and is valid. A member of a set that does not hold both ends misses the same
--- members in both graphs, so the set is a k-plex in both or in neither; one vertex more does not make a set hold both ends that holds neither, so such a set is
--- maximal in both or in neither.
+-- Laws of graphs that differ in one edge at most: the changed graph is such a one, and is valid. A member of a set that does not hold both ends misses the
+-- same members in both graphs, so the set is a k-plex in both or in neither. With one vertex more a set that holds neither end does not hold both, so it is
+-- maximal in both graphs or in neither.
 --
 --   Elsewhere a b u v   u and v are not a and b, in either order
 --   AlikeBut a b g h    the graphs g and h have as many vertices, and the same edges but for that of a and b
@@ -13,10 +13,10 @@ use mathlib.Core.Bool.{Bool, true, false, not, cond}
 use mathlib.Core.List.{List}
 use lib.ListN.{length, set, length-set}
 use lib.Seq.{ext-getD}
+use borrow.Author.Tests.{not-false}
 use Rattle.sets.specs.Set.{bit, has, In, size, with, minus}
 use Rattle.sets.specs.Graph.{row}
 use Rattle.sets.specs.RangeLaws.{Mem, true-holds, test-same}
-use borrow.Author.Tests.{not-false}
 use Rattle.sets.specs.BitLaws.{bit-le, bit-minus, ext}
 use Rattle.sets.specs.PointLaws.{by-bit, bit-with, in-single}
 use Rattle.sets.specs.SubsetLaws.{with-same, with-other, with-below, without-same, without-other, has-in, not-in}
@@ -115,10 +115,13 @@ module _ (s v : ℕ) where
 -- ---- the changed graph
 
 -- u and v are the ends of the edge, in one order or in the other, or they are not
-place : (a b u v : ℕ) → ((u ≡ a) × (v ≡ b)) ⊎ (((u ≡ b) × (v ≡ a)) ⊎ Elsewhere a b u v)
+abbrev Place : ℕ → ℕ → ℕ → ℕ → Type 0
+Place a b u v = ((u ≡ a) × (v ≡ b)) ⊎ (((u ≡ b) × (v ≡ a)) ⊎ Elsewhere a b u v)
+
+place : (a b u v : ℕ) → Place a b u v
 place a b u v = go (ℕ-discrete u a) (ℕ-discrete v b) (ℕ-discrete u b) (ℕ-discrete v a)
   where
-    go : Dec (u ≡ a) → Dec (v ≡ b) → Dec (u ≡ b) → Dec (v ≡ a) → ((u ≡ a) × (v ≡ b)) ⊎ (((u ≡ b) × (v ≡ a)) ⊎ Elsewhere a b u v)
+    go : Dec (u ≡ a) → Dec (v ≡ b) → Dec (u ≡ b) → Dec (v ≡ a) → Place a b u v
     go (yes p) (yes q) r s = inl (p, q)
     go (no p) q (yes r) (yes s) = inr (inl (r, s))
     go (yes p) (no q) (yes r) (yes s) = inr (inl (r, s))
@@ -140,9 +143,9 @@ module _ {g : List ℕ} {c : Change} (ok : Changeable g c) where
   abbrev first : List ℕ
   first = set g a (turned (row g a) b (c .on))
 
-  pub changed-long : length h ≡ length g
+  pub changed-length : length h ≡ length g
   unfolding changedGraph
-  changed-long = length-set first b _ ∙ length-set g a _
+  changed-length = length-set first b _ ∙ length-set g a _
 
   row-one : row h a ≡ turned (row g a) b (c .on)
   unfolding changedGraph
@@ -163,7 +166,7 @@ module _ {g : List ℕ} {c : Change} (ok : Changeable g c) where
   edge-two = ap (λ (x : ℕ). bit x a) row-two ∙ turned-same (row g b) a (c .on)
 
   pub changed-alike : AlikeBut a b g h
-  changed-alike = record { long = changed-long; same = λ u v o. go u v o (ℕ-discrete u a) (ℕ-discrete u b) }
+  changed-alike = record { long = changed-length; same = λ u v o. go u v o (ℕ-discrete u a) (ℕ-discrete u b) }
     where
       go : (u v : ℕ) → Elsewhere a b u v → Dec (u ≡ a) → Dec (u ≡ b) → bit (row h u) v ≡ bit (row g u) v
       go u v o (yes p) q =
@@ -176,7 +179,7 @@ module _ {g : List ℕ} {c : Change} (ok : Changeable g c) where
   changed-valid ok₀ = record { low = low; loopless = loopless; mutually = mutually }
     where
       n : length h ≡ length g
-      n = changed-long
+      n = changed-length
 
       below : (u : ℕ) → u < length g → Dec (u ≡ a) → Dec (u ≡ b) → row h u < 2 ^ length g
       below u l (yes p) q = rw (p, row-one) (turned-below (row g a) b (c .on) (length g) (ok₀ .low a (ok .one)) (ok .other))
@@ -190,8 +193,7 @@ module _ {g : List ℕ} {c : Change} (ok : Changeable g c) where
       loopless u l =
           changed-alike .same u u (λ p q. ok .apart (sym p ∙ q), λ p q. ok .apart (sym q ∙ p)) ∙ ok₀ .loopless u (omega (arith, l, n))
 
-      go : (u v : ℕ) → u < length g → v < length g → ((u ≡ a) × (v ≡ b)) ⊎ (((u ≡ b) × (v ≡ a)) ⊎ Elsewhere a b u v)
-          → bit (row h u) v ≡ bit (row h v) u
+      go : (u v : ℕ) → u < length g → v < length g → Place a b u v → bit (row h u) v ≡ bit (row h v) u
       go u v lu lv (inl (p, q)) = rw (p, q) (edge-one ∙ sym edge-two)
       go u v lu lv (inr (inl (p, q))) = rw (p, q) (edge-two ∙ sym edge-one)
       go u v lu lv (inr (inr o)) =
@@ -218,7 +220,7 @@ so-false g c e = go (c .on) e
 
 pub change-back : {g : List ℕ} {c : Change} → Valid g → Changeable g c → alreadySo g c ≡ false → changedGraph (changedGraph g c) (back c) ≡ g
 unfolding row
-change-back {g} {c} valid ok e = ext-getD 0 i g (back-long ∙ changed-long ok) (λ u l. ext (row i u) (row g u) (λ v. go u v (place (c .one) (c .other) u v)))
+change-back {g} {c} valid ok e = ext-getD 0 i g (back-long ∙ changed-length ok) (λ u l. ext (row i u) (row g u) (λ v. go u v (place (c .one) (c .other) u v)))
   where
     i : List ℕ
     i = changedGraph (changedGraph g c) (back c)
@@ -226,19 +228,18 @@ change-back {g} {c} valid ok e = ext-getD 0 i g (back-long ∙ changed-long ok) 
     again : Changeable (changedGraph g c) (back c)
     again =
         record {
-          one = omega (arith, ok .one, changed-long ok);
-          other = omega (arith, ok .other, changed-long ok);
+          one = omega (arith, ok .one, changed-length ok);
+          other = omega (arith, ok .other, changed-length ok);
           apart = ok .apart;
         }
 
     back-long : length i ≡ length (changedGraph g c)
-    back-long = changed-long again
+    back-long = changed-length again
 
     was : bit (row g (c .one)) (c .other) ≡ bitOf (not (c .on))
     was = so-false g c e
 
-    go : (u v : ℕ) → ((u ≡ c .one) × (v ≡ c .other)) ⊎ (((u ≡ c .other) × (v ≡ c .one)) ⊎ Elsewhere (c .one) (c .other) u v)
-        → bit (row i u) v ≡ bit (row g u) v
+    go : (u v : ℕ) → Place (c .one) (c .other) u v → bit (row i u) v ≡ bit (row g u) v
     go u v (inl (p, q)) = rw (p, q) (edge-one again ∙ sym was)
     go u v (inr (inl (p, q))) = rw (p, q) (edge-two again ∙ sym was ∙ valid .mutually (c .one) (c .other) (ok .one) (ok .other))
     go u v (inr (inr o)) = changed-alike again .same u v o ∙ changed-alike ok .same u v o

@@ -13,13 +13,13 @@ use judging::Refusal;
 use judging::Request;
 use search::ListFound;
 
-// The lists that are made in memory of their own, so that one search both counts and finds them: up to so many sets. A small graph has a short list and less
-// memory, since emptying it would take longer than the search.
+// A list of up to HELD sets is made in memory of the call's own, so that one search both counts and finds it.
 const HELD: usize = 4096;
 
-const HELD_SMALL: usize = 256;
-
+// A graph of up to SMALL vertices has a short list, and memory for HELD_SMALL sets: to empty more would take longer than the search.
 const SMALL: usize = 14;
+
+const HELD_SMALL: usize = 256;
 
 // Gives the slots the list of the graph, where they have room for it, and its length in any case. The list is made in `held` first; only one that is
 // longer than that is searched for once more.
