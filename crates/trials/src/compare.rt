@@ -1,6 +1,7 @@
 // Lists of the search beside those of trying all sets; and the graphs for which a call is compared so.
 ghost use Prim.Native.Nat.{_≤_};
 use crate::all_sets;
+use crate::changes;
 use crate::graphs;
 use crate::largest_plex;
 use crate::looseness;
@@ -131,6 +132,7 @@ pub enum Call {
     List,
     Largest,
     Looseness,
+    Change,
 }
 
 // The graph of the family with a vertex for each row.
@@ -140,6 +142,7 @@ fn built(cases: Tally, call: Call, rows: &mut [u64], family: usize, variant: usi
         Call::List => graph(cases, rows),
         Call::Largest => largest_plex::graph(cases, rows),
         Call::Looseness => looseness::graph(cases, rows),
+        Call::Change => changes::graph(cases, rows, variant),
     }
 }
 
@@ -167,6 +170,7 @@ fn most_vertices(call: Call) -> usize {
         Call::List => MOST_VERTICES,
         Call::Largest => MOST_ASKED,
         Call::Looseness => MOST_ASKED,
+        Call::Change => MOST_VERTICES,
     }
 }
 

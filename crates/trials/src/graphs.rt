@@ -18,6 +18,12 @@ pub const MULTIPARTITE: usize = 5;
 
 pub const UNION: usize = 6;
 
+// Twelve parts of two, and all adjacent that are in different parts; the other vertices are isolated.
+pub const COCKTAIL: usize = 7;
+
+// Complete, but vertex 0 is not adjacent to the next 31: so all are a 32-plex, and no more if it lacks one more.
+pub const LACKING: usize = 8;
+
 // No vertex has this number.
 pub const NOWHERE: usize = sets::WIDTH;
 
@@ -25,14 +31,14 @@ pub const NOWHERE: usize = sets::WIDTH;
 const PAIRS: usize = 4096;
 
 // The next pseudo-random number: Marsaglia's xorshift.
-fn next(x: u64) -> u64 {
+pub fn next(x: u64) -> u64 {
     let a = x ^ (x << 13);
     let b = a ^ (a >> 7);
     b ^ (b << 17)
 }
 
 // Where the numbers of the graph of n vertices start.
-fn seed(n: usize, variant: usize) -> u64 {
+pub fn seed(n: usize, variant: usize) -> u64 {
     next(next(next(88172645463325252 ^ ((n as u64) << 32) ^ (variant as u64))))
 }
 
@@ -57,6 +63,8 @@ fn adjacent(family: usize, variant: usize, n: usize, a: usize, b: usize, x: u64)
         PATH => apart == 1,
         STAR => a == 0,
         MULTIPARTITE => apart % (variant % 4 + 2) != 0,
+        COCKTAIL => a / 2 != b / 2 && b < 24,
+        LACKING => a != 0 || 31 < b,
         _ => apart % (variant % 4 + 2) == 0 && within(x, 100 - variant / 4 % 2 * 30),
     }
 }
@@ -69,11 +77,29 @@ pub fn join_to(rows: &mut [u64], a: usize, b: usize) {
     }
 }
 
+// b becomes no neighbour of a.
+fn part_from(rows: &mut [u64], a: usize, b: usize) {
+    if b < sets::WIDTH {
+        let row = sets::without(words::at(rows, a), b);
+        words::store(rows, a, row);
+    }
+}
+
+// a and b become neighbours, or are none any more.
+pub fn set_edge(rows: &mut [u64], a: usize, b: usize, adjacent: bool) {
+    if adjacent {
+        join_to(rows, a, b);
+        join_to(rows, b, a);
+    } else {
+        part_from(rows, a, b);
+        part_from(rows, b, a);
+    }
+}
+
 // a and b become neighbours where they are to be.
 fn join(rows: &mut [u64], a: usize, b: usize, wanted: bool) {
     if wanted {
-        join_to(rows, a, b);
-        join_to(rows, b, a);
+        set_edge(rows, a, b, true);
     }
 }
 

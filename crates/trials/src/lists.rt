@@ -10,7 +10,7 @@ use judging::Request;
 use search::ListFound;
 
 // Is the answer this number and this value?
-fn gives(found: ListFound, number: usize, value: usize) -> bool {
+pub fn gives(found: ListFound, number: usize, value: usize) -> bool {
     match found {
         ListFound::Listed(m) => (number == 0) & (value == m),
         ListFound::Refused(f) => refusals::is(f, number, value),

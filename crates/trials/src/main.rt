@@ -2,6 +2,7 @@
 // of 1 to 10 the largest k-plex with each set forced, and how loose each set is. Prints a line for each group: how many cases it has, and how many of
 // them differ. Where an answer differs, its graph is printed as a sheet.
 mod all_sets;
+mod changes;
 mod compare;
 mod graphs;
 mod largest_plex;
@@ -46,6 +47,12 @@ fn largest_cases() {
     tally::print(b"refusals of the largest", largest_plex::refused());
 }
 
+fn change_cases() {
+    tally::print(b"changes of a book", changes::found());
+    tally::print(b"changes at 4,096 sets", changes::many());
+    tally::print(b"refusals of a change", changes::refused());
+}
+
 // The lists of a family.
 fn listed(family: usize, most: usize) -> Tally {
     compare::group(tally::none(), Call::List, family, most)
@@ -62,8 +69,8 @@ fn comparisons() {
     tally::print(b"pseudo-random graphs", listed(graphs::RANDOM, RANDOM));
 }
 
-// Another call on the same graphs, where they have at most 10 vertices.
-fn every_set(call: Call) -> Tally {
+// Another call on the same graphs.
+fn others(call: Call) -> Tally {
     let mut cases = compare::group(tally::none(), call, graphs::COMPLETE, 1);
     cases = compare::group(cases, call, graphs::RING, 1);
     cases = compare::group(cases, call, graphs::PATH, 1);
@@ -79,10 +86,9 @@ fn main() {
     sheet_cases();
     looseness_cases();
     largest_cases();
+    change_cases();
     comparisons();
-    tally::print(b"largest against all sets", every_set(Call::Largest));
-    tally::print(
-        b"looseness against the definition",
-        every_set(Call::Looseness),
-    );
+    tally::print(b"largest against all sets", others(Call::Largest));
+    tally::print(b"looseness against the definition", others(Call::Looseness));
+    tally::print(b"changes against all sets", others(Call::Change));
 }

@@ -44,6 +44,25 @@ pub fn fill(words: &mut [u64], x: u64) {
     }
 }
 
+// The sets of `from` become the first ones.
+pub fn copy(from: &[u64], words: &mut [u64]) {
+    let n = sets::count(from);
+    let mut i = 0;
+    while i < n {
+        store(words, i, at(from, i));
+        i += 1;
+    }
+}
+
+// The sets of these masks become the first ones.
+pub fn of_masks(masks: &[u64], words: &mut [u64]) {
+    let mut i = 0;
+    while i < masks.len() {
+        store(words, i, sets::of_word(masks[i]));
+        i += 1;
+    }
+}
+
 // Is x the mask of every set from position `from` on?
 pub fn all_are(words: &[u64], from: usize, x: u64) -> bool {
     let n = sets::count(words);
