@@ -46,11 +46,6 @@ const LOWER: u64 = 5592405;
 
 const LOWER_OF_LATER: u64 = 5592404;
 
-// The graphs for which every slack is tried have at most so many vertices; of the larger ones there are so many variants.
-const MOST_VERTICES: usize = 12;
-
-const VARIANTS: usize = 21;
-
 fn ask(k: usize, q: usize) -> Request {
     Request { slack: k, floor: q }
 }
@@ -293,7 +288,6 @@ fn sized(
 
 // Graphs of two to five vertices.
 fn small(start: Tally) -> Tally {
-    let none = [0u64; 0];
     let chord = [7u64, 14, 19, 29];
     let ring = [7u64, 14, 19, 25, 28];
     let path = [6u64, 9, 12];
@@ -319,7 +313,7 @@ fn small(start: Tally) -> Tally {
         &square,
     );
     cases = sized(cases, EMPTY, 3, ask(1, 1), joined(0, 1), &pair, &apart);
-    cases = sized(
+    sized(
         cases,
         EMPTY,
         2,
@@ -327,8 +321,13 @@ fn small(start: Tally) -> Tally {
         joined(0, 1),
         &pair[0..1],
         &apart[0..2],
-    );
-    cases = sized(cases, EMPTY, 2, ask(2, 3), joined(1, 0), &none, &none);
+    )
+}
+
+// No set is large enough.
+fn none_listed(start: Tally) -> Tally {
+    let none = [0u64; 0];
+    let mut cases = sized(start, EMPTY, 2, ask(2, 3), joined(1, 0), &none, &none);
     cases = sized(
         cases,
         graphs::RING,
@@ -338,7 +337,7 @@ fn small(start: Tally) -> Tally {
         &none,
         &none,
     );
-    sized(
+    cases = sized(
         cases,
         graphs::RING,
         5,
@@ -346,7 +345,8 @@ fn small(start: Tally) -> Tally {
         parted(4, 0),
         &none,
         &none,
-    )
+    );
+    sized(cases, EMPTY, 64, ask(32, 63), joined(62, 63), &none, &none)
 }
 
 // The masks become those of 64 vertices that leave out one of the lowest, in rising order.
@@ -371,8 +371,7 @@ fn two_of_64(start: Tally) -> Tally {
     let mut cases = sized(start, complete, 64, ask(1, 1), parted(0, 1), &lowest, &all);
     cases = sized(cases, complete, 64, ask(1, 1), parted(62, 63), &last, &all);
     cases = sized(cases, complete, 64, ask(1, 64), parted(0, 63), &none, &all);
-    cases = sized(cases, EMPTY, 64, ask(1, 2), joined(62, 63), &pair, &none);
-    sized(cases, EMPTY, 64, ask(32, 63), joined(62, 63), &none, &none)
+    sized(cases, EMPTY, 64, ask(1, 2), joined(62, 63), &pair, &none)
 }
 
 // 64 vertices at the limit of slack, and beyond it with 33 sets.
@@ -432,7 +431,8 @@ fn opened() -> bool {
 }
 
 pub fn found() -> Tally {
-    slack_of_32(two_of_64(small(tally::with(tally::none(), opened()))))
+    let cases = tally::with(tally::none(), opened());
+    slack_of_32(two_of_64(none_listed(small(cases))))
 }
 
 // The masks with one vertex of each part of two, in rising order: the lower one, or that of a digit more. Behind them comes the mask `last`.
@@ -791,47 +791,19 @@ fn floors(
     changes(least, rows, ask(k, 2 * k), variant, masks, slots)
 }
 
-// Every slack.
-fn slacks(
-    start: Tally,
-    rows: &mut [u64],
-    variant: usize,
-    masks: &mut [u64],
-    slots: &mut [u64],
-) -> Tally {
-    let mut cases = start;
-    let mut k = 1;
-    while k <= MOST_SLACK {
-        cases = floors(cases, rows, k, variant, masks, slots);
-        k += 1;
-    }
-    cases
-}
-
-// A large graph has one slack, and there are fewer of them.
-fn slacks_by_size(
-    cases: Tally,
-    rows: &mut [u64],
-    variant: usize,
-    masks: &mut [u64],
-    slots: &mut [u64],
-) -> Tally {
-    let n = sets::count(rows);
-    if n < 2 {
-        return cases;
-    }
-    if n <= MOST_VERTICES {
-        return slacks(cases, rows, variant, masks, slots);
-    }
-    if VARIANTS <= variant {
-        return cases;
-    }
-    floors(cases, rows, variant % MOST_SLACK + 1, variant, masks, slots)
-}
-
-// One graph.
+// One graph; the variant has its slack.
 pub fn graph(cases: Tally, rows: &mut [u64], variant: usize) -> Tally {
     let mut masks = [0u64; MASK_WORDS];
     let mut slots = [0u64; SLOT_WORDS];
-    slacks_by_size(cases, rows, variant, &mut masks, &mut slots)
+    if sets::count(rows) < 2 {
+        return cases;
+    }
+    floors(
+        cases,
+        rows,
+        variant / 8 % MOST_SLACK + 1,
+        variant,
+        &mut masks,
+        &mut slots,
+    )
 }

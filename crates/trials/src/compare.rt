@@ -20,6 +20,9 @@ const MOST_VERTICES: usize = 16;
 // The most vertices where every set is asked for: forced, or how loose it is.
 const MOST_ASKED: usize = 10;
 
+// The most vertices where all sets are tried after each change.
+const MOST_CHANGED: usize = 14;
+
 const MOST_SLACK: usize = 32;
 
 const MOST_FLOOR: usize = 64;
@@ -164,17 +167,17 @@ fn variants(start: Tally, call: Call, family: usize, n: usize, most: usize) -> T
     cases
 }
 
-// Where every set is asked for the graphs are smaller.
+// Where every set is asked for, and where the graphs are changed, they are smaller.
 fn most_vertices(call: Call) -> usize {
     match call {
         Call::List => MOST_VERTICES,
         Call::Largest => MOST_ASKED,
         Call::Looseness => MOST_ASKED,
-        Call::Change => MOST_VERTICES,
+        Call::Change => MOST_CHANGED,
     }
 }
 
-// The graphs of a family with 1 to 16 vertices, or to 10 where every set is asked for, in so many variants.
+// The graphs of a family with 1 to 16 vertices, or fewer for the other calls, in so many variants.
 pub fn group(start: Tally, call: Call, family: usize, most: usize) -> Tally {
     let vertices = most_vertices(call);
     let mut cases = start;

@@ -1,6 +1,6 @@
 // Runs the edge cases of documents 01 and 02 that are not proved, and compares with trying all sets: the lists for graphs of 1 to 16 vertices, for graphs
-// of 1 to 10 the largest k-plex with each set forced, and how loose each set is. Prints a line for each group: how many cases it has, and how many of
-// them differ. Where an answer differs, its graph is printed as a sheet.
+// of 1 to 10 the largest k-plex with each set forced, and how loose each set is, and for graphs of 2 to 14 the list after each of some changes. Prints a
+// line for each group: how many cases it has, and how many of them differ. Where an answer differs, its graph is printed as a sheet.
 mod all_sets;
 mod changes;
 mod compare;
@@ -18,6 +18,9 @@ use crate::tally::Tally;
 
 // How many graphs of each number of vertices a group of pseudo-random ones has: ten of each density from 0 to 100 in steps of 5.
 const RANDOM: usize = 210;
+
+// How many variants of the other families are changed: eight of each slack.
+const CHANGED: usize = 32;
 
 fn list_cases() {
     tally::print(b"accepted slack and floor", lists::ranges());
@@ -69,8 +72,8 @@ fn comparisons() {
     tally::print(b"pseudo-random graphs", listed(graphs::RANDOM, RANDOM));
 }
 
-// Another call on the same graphs.
-fn others(call: Call) -> Tally {
+// Another call on the same graphs, where they have at most 10 vertices.
+fn every_set(call: Call) -> Tally {
     let mut cases = compare::group(tally::none(), call, graphs::COMPLETE, 1);
     cases = compare::group(cases, call, graphs::RING, 1);
     cases = compare::group(cases, call, graphs::PATH, 1);
@@ -78,6 +81,17 @@ fn others(call: Call) -> Tally {
     cases = compare::group(cases, call, graphs::MULTIPARTITE, 4);
     cases = compare::group(cases, call, graphs::UNION, 8);
     compare::group(cases, call, graphs::RANDOM, RANDOM)
+}
+
+// Changes of the graphs of each family with at most 14 vertices.
+fn changed() -> Tally {
+    let mut cases = compare::group(tally::none(), Call::Change, graphs::COMPLETE, CHANGED);
+    cases = compare::group(cases, Call::Change, graphs::RING, CHANGED);
+    cases = compare::group(cases, Call::Change, graphs::PATH, CHANGED);
+    cases = compare::group(cases, Call::Change, graphs::STAR, CHANGED);
+    cases = compare::group(cases, Call::Change, graphs::MULTIPARTITE, CHANGED);
+    cases = compare::group(cases, Call::Change, graphs::UNION, CHANGED);
+    compare::group(cases, Call::Change, graphs::RANDOM, RANDOM)
 }
 
 fn main() {
@@ -88,7 +102,10 @@ fn main() {
     largest_cases();
     change_cases();
     comparisons();
-    tally::print(b"largest against all sets", others(Call::Largest));
-    tally::print(b"looseness against the definition", others(Call::Looseness));
-    tally::print(b"changes against all sets", others(Call::Change));
+    tally::print(b"largest against all sets", every_set(Call::Largest));
+    tally::print(
+        b"looseness against the definition",
+        every_set(Call::Looseness),
+    );
+    tally::print(b"changes against all sets", changed());
 }
