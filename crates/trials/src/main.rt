@@ -2,6 +2,8 @@
 // of 1 to 10 the largest k-plex with each set forced, and how loose each set is, and for graphs of 2 to 14 the list after each of some changes. Prints a
 // line for each group: how many cases it has, and how many of them differ. Where an answer differs, its graph is printed as a sheet.
 mod all_sets;
+mod change_edges;
+mod change_refusals;
 mod changes;
 mod compare;
 mod graphs;
@@ -51,9 +53,9 @@ fn largest_cases() {
 }
 
 fn change_cases() {
-    tally::print(b"changes of a book", changes::found());
-    tally::print(b"changes at 4,096 sets", changes::many());
-    tally::print(b"refusals of a change", changes::refused());
+    tally::print(b"changes of a book", change_edges::found());
+    tally::print(b"changes at 4,096 sets", change_edges::many());
+    tally::print(b"refusals of a change", change_refusals::refused());
 }
 
 // The lists of a family.

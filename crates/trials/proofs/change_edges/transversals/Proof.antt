@@ -3,8 +3,8 @@ use lib.ListN.{length}
 use Prim.Native.Nat.{_-_}
 use mathlib.Core.Path.{_≡_}
 use borrow.Author.Needs.{needs}
-use Rattle.trials.proofs.changes.transversals.Statement.{statement}
-use Rattle.trials.proofs.changes.transversals.Tie as tie
+use Rattle.trials.proofs.change_edges.transversals.Statement.{statement}
+use Rattle.trials.proofs.change_edges.transversals.Tie as tie
 
 pub transversals-spec : {M : Type 1} → statement M
 transversals-spec =

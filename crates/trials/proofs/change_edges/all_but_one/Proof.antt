@@ -3,8 +3,8 @@ use lib.ListN.{length}
 use Prim.Native.Nat.{_≤_}
 use mathlib.Core.Path.{_≡_}
 use borrow.Author.Needs.{needs}
-use Rattle.trials.proofs.changes.all_but_one.Statement.{statement}
-use Rattle.trials.proofs.changes.all_but_one.Tie as tie
+use Rattle.trials.proofs.change_edges.all_but_one.Statement.{statement}
+use Rattle.trials.proofs.change_edges.all_but_one.Tie as tie
 
 pub all-but-one-spec : {M : Type 1} → statement M
 all-but-one-spec =

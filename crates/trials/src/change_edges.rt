@@ -1,0 +1,376 @@
+// Edges of the call that changes a book.
+ghost use Prim.Native.Nat.{_≤_};
+use crate::changes;
+use crate::changes::Change;
+use crate::changes::MASK_WORDS;
+use crate::changes::SLOT_WORDS;
+use crate::changes::ask;
+use crate::changes::joined;
+use crate::changes::parted;
+use crate::changes::with_change;
+use crate::graphs;
+use crate::graphs::EMPTY;
+use crate::lists;
+use crate::tally;
+use crate::tally::Tally;
+use crate::words;
+use crate::words::GARBAGE;
+use judging::Request;
+
+// More slots than an edge case needs.
+const FEW_WORDS: usize = 40 * sets::WORDS;
+
+// The lower vertex of each of 12 parts of two; and of all but the first of them.
+const LOWER: u64 = 5592405;
+
+const LOWER_OF_LATER: u64 = 5592404;
+
+// A change to a graph with the sets of these masks.
+fn leads_to(
+    cases: Tally,
+    rows: &mut [u64],
+    request: Request,
+    change: Change,
+    masks: &[u64],
+) -> Tally {
+    let mut list = [0u64; FEW_WORDS];
+    let mut slots = [0u64; FEW_WORDS];
+    words::of_masks(masks, &mut list);
+    with_change(cases, rows, request, change, &list, masks.len(), &mut slots)
+}
+
+// The opposite change, of the same edge by its other end.
+fn opposite(change: Change) -> Change {
+    Change {
+        a: change.b,
+        b: change.a,
+        adjacent: !change.adjacent,
+    }
+}
+
+// A change of the graph of the family with a vertex for each row, and the change back.
+fn built(
+    cases: Tally,
+    rows: &mut [u64],
+    family: usize,
+    request: Request,
+    change: Change,
+    masks: &[u64],
+    back: &[u64],
+) -> Tally {
+    graphs::build(rows, family, 0);
+    let made = leads_to(cases, rows, request, change, masks);
+    leads_to(made, rows, request, opposite(change), back)
+}
+
+// The same with n rows.
+fn sized(
+    cases: Tally,
+    family: usize,
+    n: usize,
+    request: Request,
+    change: Change,
+    masks: &[u64],
+    back: &[u64],
+) -> Tally {
+    let mut rows = [0u64; sets::TABLE];
+    let end = words::end(&rows, n);
+    built(
+        cases,
+        &mut rows[0..end],
+        family,
+        request,
+        change,
+        masks,
+        back,
+    )
+}
+
+// Graphs of two to five vertices.
+fn small(start: Tally) -> Tally {
+    let chord = [7u64, 14, 19, 29];
+    let ring = [7u64, 14, 19, 25, 28];
+    let path = [6u64, 9, 12];
+    let square = [3u64, 6, 9, 12];
+    let pair = [3u64, 4];
+    let apart = [1u64, 2, 4];
+    let mut cases = sized(
+        start,
+        graphs::RING,
+        5,
+        ask(2, 3),
+        joined(0, 2),
+        &chord,
+        &ring,
+    );
+    cases = sized(
+        cases,
+        graphs::RING,
+        4,
+        ask(1, 2),
+        parted(0, 1),
+        &path,
+        &square,
+    );
+    cases = sized(cases, EMPTY, 3, ask(1, 1), joined(0, 1), &pair, &apart);
+    sized(
+        cases,
+        EMPTY,
+        2,
+        ask(1, 1),
+        joined(0, 1),
+        &pair[0..1],
+        &apart[0..2],
+    )
+}
+
+// No set is large enough.
+fn none_listed(start: Tally) -> Tally {
+    let none = [0u64; 0];
+    let mut cases = sized(start, EMPTY, 2, ask(2, 3), joined(1, 0), &none, &none);
+    cases = sized(
+        cases,
+        graphs::RING,
+        5,
+        ask(2, 6),
+        joined(0, 2),
+        &none,
+        &none,
+    );
+    cases = sized(
+        cases,
+        graphs::RING,
+        5,
+        ask(1, 64),
+        parted(4, 0),
+        &none,
+        &none,
+    );
+    sized(cases, EMPTY, 64, ask(32, 63), joined(62, 63), &none, &none)
+}
+
+// The masks become those of 64 vertices that leave out one of the lowest, in rising order.
+fn all_but_one(masks: &mut [u64]) {
+    let mut bit = 1u64;
+    let mut i = masks.len();
+    while 0 < i {
+        i -= 1;
+        masks[i] = u64::MAX ^ bit;
+        bit = bit << 1;
+    }
+}
+
+// Two of 64 vertices.
+fn two_of_64(start: Tally) -> Tally {
+    let none = [0u64; 0];
+    let all = [u64::MAX];
+    let lowest = [u64::MAX ^ 2, u64::MAX ^ 1];
+    let last = [u64::MAX ^ (1 << 63), u64::MAX ^ (1 << 62)];
+    let pair = [3u64 << 62];
+    let complete = graphs::COMPLETE;
+    let mut cases = sized(start, complete, 64, ask(1, 1), parted(0, 1), &lowest, &all);
+    cases = sized(cases, complete, 64, ask(1, 1), parted(62, 63), &last, &all);
+    cases = sized(cases, complete, 64, ask(1, 64), parted(0, 63), &none, &all);
+    sized(cases, EMPTY, 64, ask(1, 2), joined(62, 63), &pair, &none)
+}
+
+// 64 vertices at the limit of slack, and beyond it with 33 sets.
+fn at_limit(start: Tally, without: &[u64]) -> Tally {
+    let none = [0u64; 0];
+    let all = [u64::MAX];
+    let complete = graphs::COMPLETE;
+    let lacking = graphs::LACKING;
+    let mut cases = sized(start, complete, 64, ask(32, 63), parted(0, 1), &all, &all);
+    cases = sized(cases, complete, 64, ask(32, 64), parted(62, 63), &all, &all);
+    cases = sized(
+        cases,
+        lacking,
+        64,
+        ask(32, 63),
+        parted(0, 32),
+        without,
+        &all,
+    );
+    sized(cases, lacking, 64, ask(32, 64), parted(32, 0), &none, &all)
+}
+
+fn slack_of_32(cases: Tally) -> Tally {
+    let mut without = [0u64; 33];
+    all_but_one(&mut without);
+    at_limit(cases, &without)
+}
+
+// Is the list of the ring of five five sets?
+fn opens(rows: &mut [u64], slots: &mut [u64]) -> bool {
+    graphs::build(rows, graphs::RING, 0);
+    words::fill(slots, GARBAGE);
+    let found = search::list(rows, ask(2, 3), slots);
+    lists::gives(found, 0, 5)
+}
+
+// Has it four with the chord?
+fn chord(rows: &mut [u64], slots: &mut [u64]) -> bool {
+    let found = books::change(rows, ask(2, 3), 0, 2, true, slots);
+    lists::gives(found, 0, 4)
+}
+
+// Does the change leave the last set of the old list, and the slot behind it?
+fn keeps(rows: &mut [u64], slots: &mut [u64], expected: &mut [u64]) -> bool {
+    let masks = [7u64, 14, 19, 29, 28, GARBAGE];
+    words::of_masks(&masks, expected);
+    let opened = opens(rows, slots);
+    let changed = chord(rows, slots);
+    opened & changed & words::same_front(slots, expected, 6)
+}
+
+fn opened() -> bool {
+    let mut rows = [0u64; 5 * sets::WORDS];
+    let mut slots = [0u64; 6 * sets::WORDS];
+    let mut expected = [0u64; 6 * sets::WORDS];
+    keeps(&mut rows, &mut slots, &mut expected)
+}
+
+pub fn found() -> Tally {
+    let cases = tally::with(tally::none(), opened());
+    slack_of_32(two_of_64(none_listed(small(cases))))
+}
+
+// The masks with one vertex of each part of two, in rising order: the lower one, or that of a digit more. Behind them comes the mask `last`.
+fn transversals(list: &mut [u64], m: usize, low: u64, digits: u64, last: u64) {
+    let mut s = 0u64;
+    let mut i = 0;
+    while i < m {
+        words::store(list, i, sets::of_word(std::num::wrapping_add_u64(low, s)));
+        s = std::num::wrapping_add_u64(s | (u64::MAX ^ digits), 1) & digits;
+        i += 1;
+    }
+    words::store(list, m, sets::of_word(last));
+}
+
+// A change to a graph with these, and the mask `last` where it is not empty.
+fn to_transversals(
+    cases: Tally,
+    rows: &mut [u64],
+    request: Request,
+    change: Change,
+    m: usize,
+    low: u64,
+    digits: u64,
+    last: u64,
+    list: &mut [u64],
+    slots: &mut [u64],
+) -> Tally
+    requires { ⌜ m ≤ 4096 ⌝ }
+{
+    transversals(list, m, low, digits, last);
+    let all = if last == 0 { m } else { m + 1 };
+    with_change(cases, rows, request, change, list, all, slots)
+}
+
+// Twelve parts of two, of which the first is joined and parted again, and at most one isolated vertex.
+fn first_part(
+    cases: Tally,
+    rows: &mut [u64],
+    last: u64,
+    list: &mut [u64],
+    slots: &mut [u64],
+) -> Tally {
+    let request = ask(1, 1);
+    let to = joined(0, 1);
+    let back = parted(0, 1);
+    let later = LOWER_OF_LATER;
+    graphs::build(rows, graphs::COCKTAIL, 0);
+    let made = to_transversals(
+        cases,
+        rows,
+        request,
+        to,
+        2048,
+        LOWER | 2,
+        later,
+        last,
+        list,
+        slots,
+    );
+    to_transversals(
+        made,
+        rows,
+        request,
+        back,
+        4096,
+        LOWER,
+        LOWER,
+        last,
+        list,
+        slots,
+    )
+}
+
+// The same and two isolated vertices, which are joined and parted again.
+fn last_part(cases: Tally, rows: &mut [u64], list: &mut [u64], slots: &mut [u64]) -> Tally {
+    let request = ask(1, 2);
+    let to = joined(24, 25);
+    let back = parted(25, 24);
+    let pair = 3u64 << 24;
+    graphs::build(rows, graphs::COCKTAIL, 0);
+    let made = to_transversals(
+        cases,
+        rows,
+        request,
+        to,
+        4096,
+        LOWER,
+        LOWER,
+        pair,
+        list,
+        slots,
+    );
+    to_transversals(
+        made,
+        rows,
+        request,
+        back,
+        4096,
+        LOWER,
+        LOWER,
+        0,
+        list,
+        slots,
+    )
+}
+
+// Two parts of eight: 4,900 masks at slack 4.
+fn two_parts(cases: Tally, rows: &mut [u64], list: &mut [u64], slots: &mut [u64]) -> Tally {
+    graphs::build(rows, graphs::MULTIPARTITE, 0);
+    changes::changes(cases, rows, ask(4, 7), 0, list, slots)
+}
+
+fn with_16(cases: Tally, list: &mut [u64], slots: &mut [u64]) -> Tally {
+    let mut rows = [0u64; 16 * sets::WORDS];
+    two_parts(cases, &mut rows, list, slots)
+}
+
+fn with_24(cases: Tally, list: &mut [u64], slots: &mut [u64]) -> Tally {
+    let mut rows = [0u64; 24 * sets::WORDS];
+    first_part(cases, &mut rows, 0, list, slots)
+}
+
+fn with_25(cases: Tally, list: &mut [u64], slots: &mut [u64]) -> Tally {
+    let mut rows = [0u64; 25 * sets::WORDS];
+    first_part(cases, &mut rows, 1 << 24, list, slots)
+}
+
+fn with_26(cases: Tally, list: &mut [u64], slots: &mut [u64]) -> Tally {
+    let mut rows = [0u64; 26 * sets::WORDS];
+    last_part(cases, &mut rows, list, slots)
+}
+
+// Lists that are found by one search, the longest of them, and lists that take two.
+pub fn many() -> Tally {
+    let mut list = [0u64; MASK_WORDS];
+    let mut slots = [0u64; SLOT_WORDS];
+    let mut cases = with_16(tally::none(), &mut list, &mut slots);
+    cases = with_24(cases, &mut list, &mut slots);
+    cases = with_25(cases, &mut list, &mut slots);
+    with_26(cases, &mut list, &mut slots)
+}

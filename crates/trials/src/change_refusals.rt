@@ -1,0 +1,130 @@
+// Refusals of the call that changes a book.
+use crate::changes::Change;
+use crate::changes::ROW_WORDS;
+use crate::changes::ask;
+use crate::changes::declines;
+use crate::changes::joined;
+use crate::changes::parted;
+use crate::graphs;
+use crate::graphs::NOWHERE;
+use crate::tally;
+use crate::tally::Tally;
+use crate::words;
+use crate::words::GARBAGE;
+use judging::Request;
+
+// n rows that are all wrong: row 1 is the lowest with its own bit. The vertex 65 is none of them.
+fn wrong(n: usize, request: Request, number: usize, value: usize) -> bool {
+    let mut rows = [GARBAGE; ROW_WORDS];
+    let mut slots = [0u64; 4 * sets::WORDS];
+    let end = words::end(&rows, n);
+    declines(
+        &mut rows[0..end],
+        request,
+        parted(65, 65),
+        &mut slots,
+        number,
+        value,
+    )
+}
+
+// The ring with these faults and four slots.
+fn faulty(
+    own: usize,
+    far: usize,
+    one: usize,
+    request: Request,
+    change: Change,
+    number: usize,
+    value: usize,
+) -> bool {
+    let mut rows = [0u64; 5 * sets::WORDS];
+    let mut slots = [0u64; 4 * sets::WORDS];
+    graphs::build_faulty(&mut rows, own, far, one);
+    declines(&mut rows, request, change, &mut slots, number, value)
+}
+
+// The ring without a fault at slack 2 and floor 3, and so many slots.
+fn sound(change: Change, room: usize, number: usize, value: usize) -> bool {
+    let mut rows = [0u64; 5 * sets::WORDS];
+    let mut slots = [0u64; 4 * sets::WORDS];
+    graphs::build_faulty(&mut rows, NOWHERE, NOWHERE, NOWHERE);
+    let end = words::end(&slots, room);
+    declines(
+        &mut rows,
+        ask(2, 3),
+        change,
+        &mut slots[0..end],
+        number,
+        value,
+    )
+}
+
+// 1, 2 and 3, each with the next cause and the later ones too.
+fn refused_requests(start: Tally) -> Tally {
+    let loops = parted(5, 5);
+    let mut cases = tally::with(start, wrong(0, ask(0, 65), 1, 0));
+    cases = tally::with(cases, wrong(65, ask(0, 65), 1, 0));
+    cases = tally::with(cases, wrong(65, ask(1, 1), 1, 0));
+    cases = tally::with(cases, wrong(64, ask(0, 65), 2, 0));
+    cases = tally::with(cases, wrong(64, ask(33, 64), 2, 0));
+    cases = tally::with(cases, faulty(3, NOWHERE, 1, ask(0, 3), loops, 2, 0));
+    cases = tally::with(cases, faulty(3, NOWHERE, 1, ask(33, 65), loops, 2, 0));
+    cases = tally::with(cases, wrong(64, ask(1, 65), 3, 0));
+    cases = tally::with(cases, faulty(3, NOWHERE, 1, ask(1, 0), loops, 3, 0));
+    cases = tally::with(cases, faulty(3, NOWHERE, 1, ask(2, 2), loops, 3, 0));
+    tally::with(cases, faulty(3, NOWHERE, 1, ask(32, 62), loops, 3, 0))
+}
+
+// 4 and 5, each with the next cause and the later ones too.
+fn refused_rows(start: Tally) -> Tally {
+    let request = ask(2, 3);
+    let loops = parted(5, 5);
+    let mut cases = tally::with(start, wrong(64, request, 4, 1));
+    cases = tally::with(cases, faulty(3, NOWHERE, 1, request, loops, 4, 3));
+    cases = tally::with(cases, faulty(4, 2, 0, request, loops, 4, 2));
+    cases = tally::with(cases, faulty(1, 2, 0, request, joined(0, 2), 4, 1));
+    cases = tally::with(cases, faulty(NOWHERE, NOWHERE, 4, request, loops, 5, 4));
+    cases = tally::with(cases, faulty(NOWHERE, NOWHERE, 1, request, loops, 5, 1));
+    cases = tally::with(
+        cases,
+        faulty(NOWHERE, NOWHERE, 1, request, parted(1, 3), 5, 1),
+    );
+    tally::with(
+        cases,
+        faulty(NOWHERE, NOWHERE, 1, request, joined(0, 2), 5, 1),
+    )
+}
+
+// 7 and 12, also where the edge is so, and where there is no slot.
+fn refused_vertices(start: Tally) -> Tally {
+    let mut cases = tally::with(start, sound(joined(5, 0), 4, 7, 0));
+    cases = tally::with(cases, sound(joined(0, 5), 4, 7, 0));
+    cases = tally::with(cases, sound(joined(5, 6), 4, 7, 0));
+    cases = tally::with(cases, sound(parted(5, 0), 0, 7, 0));
+    cases = tally::with(cases, sound(parted(0, 5), 0, 7, 0));
+    cases = tally::with(cases, sound(joined(5, 5), 4, 7, 0));
+    cases = tally::with(cases, sound(parted(5, 5), 0, 7, 0));
+    cases = tally::with(cases, sound(joined(64, 1), 4, 7, 0));
+    cases = tally::with(cases, sound(joined(1, usize::MAX), 4, 7, 0));
+    cases = tally::with(cases, sound(joined(0, 0), 4, 12, 0));
+    cases = tally::with(cases, sound(joined(4, 4), 0, 12, 0));
+    cases = tally::with(cases, sound(parted(0, 0), 4, 12, 0));
+    tally::with(cases, sound(parted(4, 4), 0, 12, 0))
+}
+
+// 13, also where there is no slot, and 6. The chord leaves four sets of the list, and a side taken out three.
+fn refused_edges(start: Tally) -> Tally {
+    let mut cases = tally::with(start, sound(joined(0, 1), 4, 13, 0));
+    cases = tally::with(cases, sound(joined(0, 4), 0, 13, 0));
+    cases = tally::with(cases, sound(parted(0, 2), 4, 13, 0));
+    cases = tally::with(cases, sound(parted(4, 1), 0, 13, 0));
+    cases = tally::with(cases, sound(joined(0, 2), 3, 6, 4));
+    cases = tally::with(cases, sound(joined(2, 0), 0, 6, 4));
+    cases = tally::with(cases, sound(parted(0, 1), 2, 6, 3));
+    tally::with(cases, sound(parted(1, 0), 0, 6, 3))
+}
+
+pub fn refused() -> Tally {
+    refused_edges(refused_vertices(refused_rows(refused_requests(tally::none()))))
+}
