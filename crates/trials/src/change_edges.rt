@@ -208,8 +208,8 @@ fn opens(rows: &mut [u64], slots: &mut [u64]) -> bool {
     lists::gives(found, 0, 5)
 }
 
-// Has it four with the chord?
-fn chord(rows: &mut [u64], slots: &mut [u64]) -> bool {
+// Has it four with the chord from 0 to 2?
+fn adds_chord(rows: &mut [u64], slots: &mut [u64]) -> bool {
     let found = books::change(rows, ask(2, 3), 0, 2, true, slots);
     lists::gives(found, 0, 4)
 }
@@ -219,7 +219,7 @@ fn keeps(rows: &mut [u64], slots: &mut [u64], expected: &mut [u64]) -> bool {
     let masks = [7u64, 14, 19, 29, 28, GARBAGE];
     words::of_masks(&masks, expected);
     let opened = opens(rows, slots);
-    let changed = chord(rows, slots);
+    let changed = adds_chord(rows, slots);
     opened & changed & words::same_front(slots, expected, 6)
 }
 
@@ -345,6 +345,7 @@ fn two_parts(cases: Tally, rows: &mut [u64], list: &mut [u64], slots: &mut [u64]
     changes::changes(cases, rows, ask(4, 7), 0, list, slots)
 }
 
+// The same in rows of its own; and twelve parts of two with none, one and two isolated vertices.
 fn with_16(cases: Tally, list: &mut [u64], slots: &mut [u64]) -> Tally {
     let mut rows = [0u64; 16 * sets::WORDS];
     two_parts(cases, &mut rows, list, slots)

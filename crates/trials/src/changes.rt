@@ -86,6 +86,7 @@ fn answers_beside(
         & words::all_are(slots, m, GARBAGE)
 }
 
+// The same with memory for the copy.
 fn answers(
     rows: &mut [u64],
     request: Request,
@@ -260,6 +261,7 @@ fn list_changed(
     all_sets::list(&copy[0..end], request.slack, request.floor, masks)
 }
 
+// The same with memory for the changed graph.
 fn list_after(rows: &[u64], request: Request, change: Change, masks: &mut [u64]) -> usize {
     let mut copy = [0u64; ROW_WORDS];
     list_changed(rows, request, change, &mut copy, masks)
@@ -315,7 +317,7 @@ fn floors(
     changes(least, rows, ask(k, 2 * k), variant, masks, slots)
 }
 
-// One graph; the variant has its slack.
+// One graph, where it has an edge to change. The variant decides the slack.
 pub fn graph(cases: Tally, rows: &mut [u64], variant: usize) -> Tally {
     let mut masks = [0u64; MASK_WORDS];
     let mut slots = [0u64; SLOT_WORDS];
