@@ -2,31 +2,38 @@
 use crate::rows::{Row, ROWS};
 use crate::{apart, count_apart, turns};
 use outside::book::Change;
-use outside::instances::{ring, Rng};
+use outside::instances::{complete, ring, Rng};
 use std::cell::RefCell;
 use std::time::Duration;
 
-/// Up to so many masks a change lists in one way, and above in another.
+/// A change keeps memory for up to so many masks, and searches twice for a longer list.
 const FEW: usize = 4096;
 
 const fn small(name: &'static str, graph: fn() -> Vec<u64>, k: usize, q: usize) -> Row {
     Row { name, graph, k, q }
 }
 
-/// Small graphs beside those of the table of cuts: where listing takes less than a microsecond, what a change does beside the search shows.
-const SMALL: [Row; 12] = [
+/// Graphs beside those of the table of cuts where listing takes a microsecond or less, so that what a change does beside the search shows: as few candidates
+/// as have no more memory, as many as have more, and none.
+const SMALL: [Row; 18] = [
     small("ring 3", || ring(3), 1, 1),
     small("ring 5", || ring(5), 1, 1),
     small("ring 5", || ring(5), 2, 3),
-    small("ring 8", || ring(8), 1, 1),
     small("ring 8", || ring(8), 2, 3),
-    small("ring 14", || ring(14), 1, 1),
-    small("ring 14", || ring(14), 2, 3),
+    small("complete 8", || complete(8), 2, 3),
+    small("complete 9", || complete(9), 2, 3),
     small("ring 15", || ring(15), 1, 1),
-    small("ring 15", || ring(15), 2, 3),
+    small("ring 15", || ring(15), 1, 3),
+    small("ring 19", || ring(19), 1, 1),
+    small("ring 20", || ring(20), 1, 1),
+    small("complete 19", || complete(19), 2, 3),
+    small("complete 20", || complete(20), 2, 3),
     small("ring 24", || ring(24), 1, 1),
     small("ring 24", || ring(24), 2, 3),
+    small("ring 47", || ring(47), 1, 1),
+    small("ring 48", || ring(48), 1, 1),
     small("ring 64", || ring(64), 1, 1),
+    small("ring 64", || ring(64), 1, 3),
 ];
 
 fn row(at: usize) -> &'static Row {

@@ -1,7 +1,7 @@
 // The season book: a graph and its list in lent memory, kept together while edges come and go.
-ghost use Rattle.sets.specs.Words.{masks};
+ghost use Rattle.sets.specs.Words.{mask, masks};
 ghost use Rattle.judging.specs.Request.{asked};
-ghost use Rattle.search.specs.Start.{Accepted};
+ghost use Rattle.search.specs.Start.{Accepted, Candidates};
 ghost use Rattle.books.specs.Book.{change, changedGraph};
 ghost use Rattle.books.specs.Calls.{Changeable, Renews, Changes};
 
@@ -12,51 +12,90 @@ use judging::Checked;
 use judging::Refusal;
 use judging::Request;
 use search::ListFound;
+use sets::Set;
 
-// A list of up to HELD sets is made in memory of the call's own, so that one search both counts and finds it.
+// A list is made in memory of the call's own first: where it fits there, one search both counts and finds it. So many sets have room,
 const HELD: usize = 4096;
 
-// A graph of up to SMALL vertices has a short list, and memory for HELD_SMALL sets: to empty more would take longer than the search.
-const SMALL: usize = 14;
+// or fewer where a search may be over sooner than more memory is emptied.
+const HELD_SMALL: usize = 1024;
 
-const HELD_SMALL: usize = 256;
+const HELD_TINY: usize = 128;
+
+// Are the candidates so few that a search may be over sooner than memory for HELD sets is emptied? At slack 1 it is the sooner over.
+fn is_small(k: usize, candidates: usize) -> bool {
+    if k == 1 {
+        return candidates < 48;
+    }
+    candidates < 20
+}
+
+// And for HELD_SMALL sets?
+fn is_tiny(k: usize, candidates: usize) -> bool {
+    if k == 1 {
+        return candidates < 20;
+    }
+    candidates < 9
+}
 
 // Gives the slots the list of the graph, where they have room for it, and its length in any case. The list is made in `held` first; only one that is
-// longer than that is searched for once more.
-fn renew_by(rows: &[u64], request: Request, held: &mut [u64], slots: &mut [u64]) -> usize
-    requires { ⌜ Accepted (masks (now rows)) (asked request) ⌝ }
+// longer than that is searched for once more. Every set of the list lies in `all`.
+fn renew_by(rows: &[u64], request: Request, all: Set, held: &mut [u64], slots: &mut [u64]) -> usize
+    requires { ⌜ Accepted (masks (now rows)) (asked request) × Candidates (masks (now rows)) (asked request) (mask all) ⌝ }
     ensures { λ r. ⌜ Renews (masks (now (rows .entry))) (asked request) (masks (now (slots .entry))) (masks (now (slots .exit))) r ⌝ }
 {
-    let m = search::collect(rows, request, search::usual(), held);
+    let m = search::collect(rows, request, search::usual(), all, held);
     if sets::count(slots) < m {
         return m;
     }
     if sets::count(held) < m {
-        return search::collect(rows, request, search::usual(), slots);
+        return search::collect(rows, request, search::usual(), all, slots);
     }
     lists::place::copy(held, m, slots);
     m
 }
 
-// The same with memory of its own, for a small graph.
-fn renew_small(rows: &[u64], request: Request, slots: &mut [u64]) -> usize
-    requires { ⌜ Accepted (masks (now rows)) (asked request) ⌝ }
+// The same with memory for HELD_TINY sets.
+fn renew_tiny(rows: &[u64], request: Request, all: Set, slots: &mut [u64]) -> usize
+    requires { ⌜ Accepted (masks (now rows)) (asked request) × Candidates (masks (now rows)) (asked request) (mask all) ⌝ }
+    ensures { λ r. ⌜ Renews (masks (now (rows .entry))) (asked request) (masks (now (slots .entry))) (masks (now (slots .exit))) r ⌝ }
+{
+    let mut held = [0u64; HELD_TINY * sets::WORDS];
+    renew_by(rows, request, all, &mut held, slots)
+}
+
+// The same with memory for HELD_SMALL sets.
+fn renew_small(rows: &[u64], request: Request, all: Set, slots: &mut [u64]) -> usize
+    requires { ⌜ Accepted (masks (now rows)) (asked request) × Candidates (masks (now rows)) (asked request) (mask all) ⌝ }
     ensures { λ r. ⌜ Renews (masks (now (rows .entry))) (asked request) (masks (now (slots .entry))) (masks (now (slots .exit))) r ⌝ }
 {
     let mut held = [0u64; HELD_SMALL * sets::WORDS];
-    renew_by(rows, request, &mut held, slots)
+    renew_by(rows, request, all, &mut held, slots)
 }
 
-// The same for any graph.
+// The same with memory for HELD sets.
+fn renew_large(rows: &[u64], request: Request, all: Set, slots: &mut [u64]) -> usize
+    requires { ⌜ Accepted (masks (now rows)) (asked request) × Candidates (masks (now rows)) (asked request) (mask all) ⌝ }
+    ensures { λ r. ⌜ Renews (masks (now (rows .entry))) (asked request) (masks (now (slots .entry))) (masks (now (slots .exit))) r ⌝ }
+{
+    let mut held = [0u64; HELD * sets::WORDS];
+    renew_by(rows, request, all, &mut held, slots)
+}
+
+// The same with as much memory as suits the candidates.
 fn renew(rows: &[u64], request: Request, slots: &mut [u64]) -> usize
     requires { ⌜ Accepted (masks (now rows)) (asked request) ⌝ }
     ensures { λ r. ⌜ Renews (masks (now (rows .entry))) (asked request) (masks (now (slots .entry))) (masks (now (slots .exit))) r ⌝ }
 {
-    if sets::count(rows) <= SMALL {
-        return renew_small(rows, request, slots);
+    let all = search::candidates(rows, request.slack, request.floor, true);
+    let candidates = sets::size(all);
+    if is_tiny(request.slack, candidates) {
+        return renew_tiny(rows, request, all, slots);
     }
-    let mut held = [0u64; HELD * sets::WORDS];
-    renew_by(rows, request, &mut held, slots)
+    if is_small(request.slack, candidates) {
+        return renew_small(rows, request, all, slots);
+    }
+    renew_large(rows, request, all, slots)
 }
 
 // The same for the changed graph, which is made in a table of its own: the rows keep their contents.
@@ -83,7 +122,8 @@ fn renew_changed(
 // Outcome: m, the length of the new list; both rows are changed, the first m slots hold the list, and the later ones keep what they held.
 // Refusals: 1, 2, 3, 4, 5, 7, 12 where a and b are the same, 13 where the edge is already so, and 6 with the exact m where there are fewer slots than m.
 // Each leaves rows and slots as they were.
-// Cost: the checks and one search of the changed graph; two where its list has more sets than memory is kept for: 4,096, and 256 up to 14 vertices.
+// Cost: the checks and one search of the changed graph; two where its list has more sets than memory is kept for: 4,096, or fewer among few
+// candidates.
 pub fn change(
     rows: &mut [u64],
     request: Request,

@@ -110,22 +110,22 @@ fn enumerate_from(
     )
 }
 
-// Places every maximal k-plex of at least q members while the slots have room, and counts them all.
-fn enumerate(rows: &[u64], k: usize, q: usize, cuts: Cuts, slots: &mut [u64]) -> usize
-    requires { ⌜ Accepted (masks (now rows)) (request k q) ⌝ }
+// Places every maximal k-plex of at least q members while the slots have room, and counts them all. Each of them lies in `all`.
+fn enumerate(rows: &[u64], k: usize, q: usize, cuts: Cuts, all: Set, slots: &mut [u64]) -> usize
+    requires { ⌜ Accepted (masks (now rows)) (request k q) × Candidates (masks (now rows)) (request k q) (mask all) ⌝ }
     ensures { λ r. ⌜ Adds (2 ^ length (masks (now (rows .entry)))) (listed (masks (now (rows .entry))) (request k q))
         (masks (now (slots .entry))) 0 (masks (now (slots .exit))) r ⌝ }
 {
-    let all = candidates(rows, k, q, cuts.core);
     enumerate_from(rows, k, q, cuts, all, sets::empty(), all, slots, 0)
 }
 
 // Puts every maximal k-plex of at least q members in the first slots, in rising order, where there is room for all of them, and counts them in any case.
-pub fn collect(rows: &[u64], request: Request, cuts: Cuts, slots: &mut [u64]) -> usize
-    requires { ⌜ Accepted (masks (now rows)) (asked request) ⌝ }
+// Each of them lies in `all`.
+pub fn collect(rows: &[u64], request: Request, cuts: Cuts, all: Set, slots: &mut [u64]) -> usize
+    requires { ⌜ Accepted (masks (now rows)) (asked request) × Candidates (masks (now rows)) (asked request) (mask all) ⌝ }
     ensures { λ r. ⌜ Collects (masks (now (rows .entry))) (asked request) (masks (now (slots .entry))) (masks (now (slots .exit))) r ⌝ }
 {
-    let m = enumerate(rows, request.slack, request.floor, cuts, slots);
+    let m = enumerate(rows, request.slack, request.floor, cuts, all, slots);
     let room = sets::count(slots);
     if room < m {
         return m;
@@ -143,7 +143,8 @@ pub fn list_with(rows: &[u64], request: Request, cuts: Cuts, slots: &mut [u64]) 
     if let Checked::Failed(f) = checked {
         return ListFound::Refused(f);
     }
-    let m = collect(rows, request, cuts, slots);
+    let all = candidates(rows, request.slack, request.floor, cuts.core);
+    let m = collect(rows, request, cuts, all, slots);
     if sets::count(slots) < m {
         lists::place::clear(slots);
         return ListFound::Refused(Refusal::Slots(m));

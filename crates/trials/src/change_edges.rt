@@ -366,7 +366,7 @@ fn with_26(cases: Tally, list: &mut [u64], slots: &mut [u64]) -> Tally {
     last_part(cases, &mut rows, list, slots)
 }
 
-// Lists that are found by one search, the longest of them, and lists that take two.
+// Long lists: up to as many sets as the program has slots, and more.
 pub fn many() -> Tally {
     let mut list = [0u64; MASK_WORDS];
     let mut slots = [0u64; SLOT_WORDS];

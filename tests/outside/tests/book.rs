@@ -207,21 +207,43 @@ fn hold_long(rng: &mut Rng, rows: &[u64], k: usize, q: usize) -> usize {
     want.len()
 }
 
-#[test]
-fn lists_of_4096_masks_and_about_as_many() {
-    let (mut rng, twos) = (Rng(4096), parts(&[2; 12]));
-    for (rows, m) in [
-        (parts(&[3, 3, 5, 7, 13]), 4095),
-        (twos.clone(), 4096),
-        (beside(&twos, &[0]), 4097),
-        (beside(&twos, &[0; 2]), 4098),
-        (beside(&[0; 40], &twos), 4136),
-        (beside(&twos, &twos), 8192),
-    ] {
+/// Changes to graphs whose lists have so many masks, at slack 1.
+fn hold_cliques(rng: &mut Rng, graphs: &[(Vec<u64>, usize)]) {
+    for (rows, m) in graphs {
         for _ in 0..many(2) {
-            assert_eq!(hold_long(&mut rng, &rows, 1, 1), m);
+            assert_eq!(hold_long(rng, rows, 1, 1), *m);
         }
     }
+}
+
+#[test]
+fn lists_of_4096_masks_and_about_as_many() {
+    let (twos, sixteens) = (parts(&[2; 12]), parts(&[16; 3]));
+    let graphs = [
+        (parts(&[7, 15, 39]), 4095),
+        (sixteens.clone(), 4096),
+        (beside(&sixteens, &[0]), 4097),
+        (beside(&sixteens, &[0; 2]), 4098),
+        (beside(&[0; 40], &twos), 4136),
+        (beside(&twos, &twos), 8192),
+    ];
+    hold_cliques(&mut Rng(4096), &graphs);
+}
+
+#[test]
+fn lists_as_long_as_the_memory_for_few_candidates() {
+    // at slack 1 the library keeps memory for 1,024 masks below 48 vertices, and for 128 below 20
+    let (tens, sevens) = (parts(&[2; 10]), parts(&[2; 7]));
+    let graphs = [
+        (parts(&[3, 11, 31]), 1023),
+        (tens.clone(), 1024),
+        (beside(&tens, &[0]), 1025),
+        (parts(&[2; 12]), 4096),
+        (beside(&parts(&[5; 3]), &[0; 2]), 127),
+        (sevens.clone(), 128),
+        (beside(&sevens, &[0]), 129),
+    ];
+    hold_cliques(&mut Rng(1024), &graphs);
 }
 
 #[test]
@@ -235,15 +257,15 @@ fn lists_of_4096_masks_at_slack_2_and_3() {
 }
 
 #[test]
-fn lists_of_256_masks_and_about_as_many_of_14_vertices() {
-    // up to 14 vertices the library keeps memory for 256 masks
+fn lists_of_about_1024_masks_of_14_to_19_vertices_at_slack_4() {
+    // below 20 vertices the library keeps memory for 1,024 masks
     let (mut rng, mut short, mut long) = (Rng(256), 0, 0);
     for _ in 0..many(100) {
-        let (n, seed) = (rng.between(13, 15), rng.word());
-        let m = hold_long(&mut rng, &instances::random(n, 0.6, seed), 4, 7);
-        *(if m > 256 { &mut long } else { &mut short }) += 1;
+        let (n, seed) = (rng.between(14, 19), rng.word());
+        let m = hold_long(&mut rng, &instances::random(n, 0.5, seed), 4, 7);
+        *(if m > 1024 { &mut long } else { &mut short }) += 1;
     }
-    println!("changes to {short} lists of up to 256 masks and to {long} longer ones, 13 to 15 vertices, k=4 q=7");
+    println!("changes to {short} lists of up to 1,024 masks and to {long} longer ones, 14 to 19 vertices, k=4 q=7");
     assert!(short > 20 && long > 20);
 }
 
@@ -269,12 +291,12 @@ fn long_lists() {
 
 #[test]
 fn a_list_that_crosses_4096_masks() {
-    // parts of two and a single vertex; the slots are left as they are from one change to the next
-    let rows = beside(&parts(&[2; 12]), &[0]);
+    // parts of sixteen and a single vertex; the slots are left as they are from one change to the next
+    let rows = beside(&parts(&[16; 3]), &[0]);
     let mut book = open(&rows, 1, 1);
     let first = book.slots.clone();
     assert_eq!(first, book::list(&rows, 1, 1));
-    for (a, b, m) in [(0, 1, 2049), (0, 2, 3073), (24, 5, 4097), (23, 22, 2049)] {
+    for (a, b, m) in [(0, 1, 3841), (0, 16, 4081), (48, 5, 4097), (17, 16, 3841)] {
         let change = Change::of(&rows, a, b);
         assert_eq!(hold(&mut book, change, &book::list(&change.graph(&rows), 1, 1)), success(m, 0));
         assert_eq!(hold(&mut book, change.back(), &first), success(4097, 0));

@@ -32,7 +32,7 @@ roomy c = c .before .before .before
 slots-fit : (c : tie.Else1) → length-of c ≤ length (masks (now (start (made c) .args .slots)))
 slots-fit c = omega (arith, c .if1 .left, c .before .count .ensures)
 
-held-fits : (c : tie.Else2) → length-of (roomy c) ≤ length (masks (made (roomy c) .collect .last .1 .1 .1 .0))
+held-fits : (c : tie.Else2) → length-of (roomy c) ≤ length (masks (made (roomy c) .collect .last .1 .1 .1 .1 .0))
 held-fits c = omega (arith, c .if2 .left, c .before .count2 .ensures)
 
 -- ---- the needs
@@ -51,9 +51,9 @@ returns-3 c =
     let copy = c .before .before in
     let fits = copy .before .before .before in
     let at = made (roomy fits) in
-    let held : List ℕ = at .collect .last .1 .1 .1 .0 in
+    let held : List ℕ = at .collect .last .1 .1 .1 .1 .0 in
     renews-copied (at .collect .ensures) (slots-fit (roomy fits))
-    (omega (arith, held-fits fits, count-masks held, count-masks (now (start at .args .held)), at .collect .kept .1 .1 .1 .0))
+    (omega (arith, held-fits fits, count-masks held, count-masks (now (start at .args .held)), at .collect .kept .1 .1 .1 .1 .0))
     (copy .copy .ensures)
 
 pub renew-by-spec : {M : Type 1} → statement M

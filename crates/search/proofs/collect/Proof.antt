@@ -25,7 +25,7 @@ abbrev found : tie.After-enumerate → ℕ
 found c = c .enumerate .result
 
 abbrev filled : tie.After-enumerate → List ℕ
-filled c = c .enumerate .last .1 .1 .1 .1 .0
+filled c = c .enumerate .last .1 .1 .1 .1 .1 .0
 
 abbrev start : tie.After-enumerate → tie.Start
 start c = c .before .before .before .before
@@ -43,7 +43,7 @@ returns : tie.Need-returns
 returns c =
     let at = searched (c .before) in
     let x = at .enumerate .ensures in
-    collects-short (start at .pre) x (omega (arith, c .if1 .taken, c .before .count .ensures, added-length (start at .pre) x))
+    collects-short (start at .pre .0) x (omega (arith, c .if1 .taken, c .before .count .ensures, added-length (start at .pre .0) x))
 
 offset-requires : tie.Need-offset-requires
 offset-requires c κs = room-fits (c .before)
@@ -59,7 +59,7 @@ same-length-2 c =
     let sorted = c .before .before in
     let lent = sorted .before .before in
     let at = ended lent in
-    length-front (filled at) (sorted .sort .last .0) (lent .offset .result) (sorted .sort .kept .0) ∙ at .enumerate .kept .1 .1 .1 .1 .0
+    length-front (filled at) (sorted .sort .last .0) (lent .offset .result) (sorted .sort .kept .0) ∙ at .enumerate .kept .1 .1 .1 .1 .1 .0
 
 returns-2 : tie.Need-returns-2
 returns-2 c =
@@ -71,7 +71,7 @@ returns-2 c =
     let part : List ℕ = sorted .sort .last .0 in
     let end : ℕ = lent .offset .result in
     let long : length part ≡ end = sorted .sort .kept .0 ∙ length-take-le end (filled at) (end-fits lent) in
-    collects-fits (start at .pre) x (omega (arith, room, added-length (start at .pre) x))
+    collects-fits (start at .pre .0) x (omega (arith, room, added-length (start at .pre .0) x))
     (rw (lent-before (filled at) (found at) end (lent .offset .ensures) room) at (sorted .sort .ensures))
     (back-before (filled at) (found at) end (lent .offset .ensures) part long)
 

@@ -6,13 +6,13 @@ use Rattle.search.proofs.enumerate.Tie as tie
 
 enumerate-from-requires : tie.Need-enumerate-from-requires
 enumerate-from-requires c κs =
-    let start = c .before .before .before .before .before in
-    whole-startable (c .before .empty .ensures) (c .before .before .candidates .ensures) (start .pre)
+    let start = c .before .before .before .before in
+    whole-startable (c .before .empty .ensures) (start .pre .1) (start .pre .0)
 
 returns : tie.Need-returns
 returns c =
     let empty = c .before .before .before .before in
-    start-adds (empty .empty .ensures) (empty .before .candidates .ensures) (c .before .before .enumerate-from .ensures)
+    start-adds (empty .empty .ensures) (empty .before .before .before .pre .1) (c .before .before .enumerate-from .ensures)
 
 pub enumerate-spec : {M : Type 1} → statement M
-enumerate-spec = tie.close (tie.spec (λ c. search needs) (λ c. search needs) enumerate-from-requires (λ c. search needs) returns)
+enumerate-spec = tie.close (tie.spec (λ c κs. search needs) enumerate-from-requires (λ c. search needs) returns)

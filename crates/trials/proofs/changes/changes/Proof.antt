@@ -10,7 +10,8 @@ pub changes-spec : {M : Type 1} → statement M
 changes-spec =
     tie.close
     (tie.spec
-    (λ rows₀ request variant masks₀ slots₀ x₀ cases₀ i₀ rows masks slots x cases i. (length rows ≡ length rows₀) × (length masks ≡ length masks₀) × (length slots ≡ length slots₀))
+    (λ rows₀ request variant masks₀ slots₀ x₀ cases₀ i₀ rows masks slots x cases i.
+    (length rows ≡ length rows₀) × (length masks ≡ length masks₀) × (length slots ≡ length slots₀))
     (λ rows₀ request variant masks₀ slots₀ x₀ cases₀ i₀ rows masks slots x cases i. 3 - i)
     (λ c. search needs) (λ c. search needs) (λ c. search needs) (λ c. search needs) (λ c. search needs) (λ c. search needs) (λ c. search needs)
     (λ c. search needs) (λ c. search needs) (λ c. search needs) (λ c. search needs) (λ c. search needs) (λ c. search needs))
