@@ -14,15 +14,15 @@ use judging::Request;
 use search::ListFound;
 use sets::Set;
 
-// A list is made in memory of the call's own first: where it fits there, one search both counts and finds it. So many sets have room,
+// A list is made in memory of the call's own first: where it fits there, one search both counts and finds it. To empty memory for HELD sets takes longer than
+// some searches: among few candidates there is less of it, for HELD_SMALL or HELD_TINY sets (docs/DECISIONS.md has the figures).
 const HELD: usize = 4096;
 
-// or fewer where a search may be over sooner than more memory is emptied.
 const HELD_SMALL: usize = 1024;
 
 const HELD_TINY: usize = 128;
 
-// Are the candidates so few that a search may be over sooner than memory for HELD sets is emptied? At slack 1 it is the sooner over.
+// Are the candidates so few that a search may be over before memory for HELD sets is emptied? At slack 1 a search takes less time.
 fn is_small(k: usize, candidates: usize) -> bool {
     if k == 1 {
         return candidates < 48;
@@ -30,7 +30,7 @@ fn is_small(k: usize, candidates: usize) -> bool {
     candidates < 20
 }
 
-// And for HELD_SMALL sets?
+// Are they so few that it may be over before memory for HELD_SMALL sets is?
 fn is_tiny(k: usize, candidates: usize) -> bool {
     if k == 1 {
         return candidates < 20;
