@@ -4,10 +4,12 @@ use native.Mathlib.Omega.{arith}
 use mathlib.Core.Path.{_≡_, sym, ap, _∙_}
 use mathlib.Core.List.{List, [], _∷_}
 use lib.ListN.{length}
+use Rattle.sets.specs.Set.{full}
 use borrow.Author.Tests.{le-leb, lt-leb}
 use Rattle.judging.specs.Request.{request}
 use Rattle.judging.specs.Refusal.{refused, answered, firstOf, vertexOutCause}
 use Rattle.judging.specs.Calls.{refusal, passed, checkedReply, graphCheck, requestCheck}
+use Rattle.judging.specs.Graph.{Valid}
 use Rattle.judging.specs.Setting.{Sized, LowRows}
 use Rattle.judging.specs.RefusalLaws.{first-holds, first-skips}
 use Rattle.judging.specs.RefusalLaws.{graph-sized, graph-checked, slack-graph, slack-accepted, request-slack, floor-accepted}
@@ -15,6 +17,7 @@ use Rattle.judging.specs.CallLaws.{none-holds, front-refused, front-accepted}
 use Rattle.judging.specs.declared.Refusal.{Refusal}
 use Rattle.judging.specs.declared.Checked.{Checked}
 use Rattle.judging.specs.declared.Checked.the-variants.{Passed, Failed}
+use Rattle.bounds.specs.Core.{core, passes, Peeling, peeling}
 use Rattle.bounds.specs.Reach.{reach}
 use Rattle.bounds.specs.Calls.{reachCheck, reachReply}
 
@@ -24,11 +27,20 @@ module _ (g : List ℕ) (k q : ℕ) {r : Checked} (h : checkedReply r ≡ firstO
   none : firstOf (requestCheck g (request k q)) passed ≡ passed
   none = none-holds _ r h e
 
-  pub core-sized : Sized g
-  core-sized = graph-sized g (slack-graph g k (request-slack g (request k q) none))
+  graph-passed : firstOf (graphCheck g) passed ≡ passed
+  graph-passed = slack-graph g k (request-slack g (request k q) none)
+
+  pub core-peelable : Sized g × Valid g
+  core-peelable = (graph-sized g graph-passed, graph-checked g graph-passed)
 
   pub core-floor : k ≤ q
   core-floor = omega (arith, slack-accepted g k (request-slack g (request k q) none), floor-accepted g (request k q) none)
+
+pub peeling-found : (g : List ℕ) (m : ℕ) {c n : ℕ} → (c ≡ core g m) × (n ≡ passes g m (full (length g)))
+    → _≡_ {A = Peeling} (record { core = c; passes = n }) (peeling g m)
+unfolding peeling
+peeling-found g m {c} {n} h =
+    ap (λ (x : ℕ). record { core = x; passes = n }) (h .0) ∙ ap (λ (x : ℕ). record { core = core g m; passes = x }) (h .1)
 
 -- ---- the reach: the vertex is looked at after the table
 

@@ -1,6 +1,6 @@
 -- What the calls for the core and the reach answer, for every input: their causes in document 01's order, and what they find.
 --
---   coreReply g k q   the core of the graph for the slack k and the floor q
+--   coreReply g k q   the core of the graph for the slack k and the floor q, and the passes that peel it out
 --   reachReply g v    the two-hop reach of the vertex v
 --   coreFoundReply, reachFoundReply   the answers of the code as replies
 use Prim.Native.Nat.{ℕ, _-_}
@@ -9,19 +9,19 @@ use Rattle.sets.specs.Words.{mask}
 use Rattle.judging.specs.Request.{request}
 use Rattle.judging.specs.Refusal.{Reply, answered, Cause, firstOf, vertexOutCause}
 use Rattle.judging.specs.Calls.{refusal, graphCheck, requestCheck}
-use Rattle.bounds.specs.Core.{core}
+use Rattle.bounds.specs.Core.{Peeling, peeling}
 use Rattle.bounds.specs.Reach.{reach}
 use Rattle.bounds.specs.declared.CoreFound.{CoreFound}
 use Rattle.bounds.specs.declared.CoreFound.the-variants as coreFound
 use Rattle.bounds.specs.declared.ReachFound.{ReachFound}
 use Rattle.bounds.specs.declared.ReachFound.the-variants as reachFound
 
-abbrev pub coreFoundReply : CoreFound → Reply ℕ
-coreFoundReply (coreFound.Core s) = answered 0 (mask s)
+abbrev pub coreFoundReply : CoreFound → Reply Peeling
+coreFoundReply (coreFound.Core p) = answered 0 (record { core = mask (p .core); passes = p .passes })
 coreFoundReply (coreFound.Refused f) = refusal f
 
-unfoldable pub coreReply : List ℕ → ℕ → ℕ → Reply ℕ
-coreReply g k q = firstOf (requestCheck g (request k q)) (answered 0 (core g (q - k)))
+unfoldable pub coreReply : List ℕ → ℕ → ℕ → Reply Peeling
+coreReply g k q = firstOf (requestCheck g (request k q)) (answered 0 (peeling g (q - k)))
 
 abbrev pub reachFoundReply : ReachFound → Reply ℕ
 reachFoundReply (reachFound.Reach s) = answered 0 (mask s)

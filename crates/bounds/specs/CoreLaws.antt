@@ -1,7 +1,4 @@
--- Laws of the core: it is dense, it holds every dense set, and nothing else is both; large plexes lie in it; a pass goes towards it.
---
---   Peeling g m s left kept   a pass through s in progress: the members of left are still to be looked at, and kept is left of s so far
---   HoldsDense g m s          s holds every dense set of the graph
+-- Laws of the core: it is dense, it holds every dense set, and nothing else is both; large plexes lie in it.
 use Prim.Native.Nat.{ℕ, _-_, _^_, _≤_, _<_}
 use native.Mathlib.Nat.{le-trans, lt-of-le-of-lt}
 use native.Mathlib.Omega.{arith}
@@ -24,7 +21,7 @@ use Rattle.sets.specs.WalkLaws.{Walked, walk-none, walk-more, walk-map, walk-al
 use Rattle.judging.specs.Graph.{degree}
 use Rattle.judging.specs.Plex.{Plex}
 use Rattle.judging.specs.GraphLaws.{degree-missing, degree-mono}
-use Rattle.bounds.specs.Core.{dense, Dense, core, Peeled}
+use Rattle.bounds.specs.Core.{dense, Dense, core}
 
 -- ---- the test and the statement
 
@@ -74,64 +71,3 @@ core-unique g m c b d h = sub-antisym c (core g m) (core-complete g m c b d) (h 
 -- every plex of at least q members lies in the core of q - k
 pub plex-core : (g : List ℕ) (k q s : ℕ) → s < 2 ^ length g → Plex g k s → q ≤ size s → Sub s (core g (q - k))
 plex-core g k q s b p l = core-complete g (q - k) s b (λ v lv e. omega (arith, p v lv e, degree-missing g s v))
-
--- ---- a pass
-
--- what holds midway: of what was looked at, all that stayed has enough neighbours if nothing was taken out
-pub record Peeling (g : List ℕ) (m s left kept : ℕ) : Type 0 where
-  pub part : Sub kept s
-  pub keeps : (t : ℕ) → Dense g m t → Sub t s → Sub t kept
-  pub walked : Walked (λ v. kept ≡ s → m ≤ degree g s v) s left
-
-pub peeling-none : {g : List ℕ} {m s : ℕ} → Peeling g m s s s
-peeling-none {s = s} = record { part = sub-refl s; keeps = λ t d h. h; walked = walk-none }
-
-module _ {g : List ℕ} {m s left kept v d : ℕ} (p : Peeling g m s left kept) (here : Lowest left v) (deg : d ≡ degree g kept v) where
-  -- v stays
-  pub peeling-same : m ≤ d → Peeling g m s (without left v) kept
-  peeling-same many =
-      let enough : (kept ≡ s → m ≤ degree g s v) = λ q. omega (arith, ap (λ (y : ℕ). degree g y v) q) in
-      record { part = p .part; keeps = p .keeps; walked = walk-more (p .walked) enough }
-
-  -- v goes: it is in no dense set inside s, as it is adjacent to fewer than m of what is left of s
-  pub peeling-more : v < length g → d < m → Peeling g m s (without left v) (without kept v)
-  peeling-more l few =
-      record {
-        part = sub-trans _ kept s (minus-sub kept (2 ^ v)) (p .part);
-        keeps = λ t dt h u.
-            let out = by-bit t v (λ i. absurd (omega (arith, dt v l i, degree-mono g t kept v (p .keeps t dt h)))) (λ o. o) in
-            omega (arith, p .keeps t dt h u, bit-minus kept (2 ^ v) u, single-out t v u out);
-        walked = walk-more (walk-map (λ u h q. absurd (less q)) (p .walked)) (λ q. absurd (less q));
-      }
-    where
-      less : without kept v ≡ s → ⊥
-      less q = omega (arith, without-same kept v, ap (λ (y : ℕ). bit y v) q, p .walked .part v, here .member, bit-le s v)
-
--- the pass is done
-pub peeling-all : {g : List ℕ} {m s left kept : ℕ} → Peeling g m s left kept → left ≡ 0 → Peeled g m s kept
-peeling-all p z =
-    record { part = p .part; keeps = p .keeps; still = λ q v l e. walk-all z (p .walked) v e q }
-
--- ---- passes until none is taken
-
-pub record HoldsDense (g : List ℕ) (m s : ℕ) : Type 0 where
-  pub below : s < 2 ^ length g
-  pub holds : (t : ℕ) → t < 2 ^ length g → Dense g m t → Sub t s
-
-pub holds-dense-none : {g : List ℕ} {m s : ℕ} → s ≡ full (length g) → HoldsDense g m s
-holds-dense-none {g} e =
-    record {
-      below = omega (arith, e, pow-pos (length g));
-      holds = λ t b d. rw e (sub-full (length g) t b);
-    }
-
-module _ {g : List ℕ} {m s r : ℕ} (p : Peeled g m s r) where
-  pub peeled-falls : (r ≡ s → ⊥) → r < s
-  peeled-falls ne = omega (arith, sub-number r s (p .part))
-
-  module _ (h : HoldsDense g m s) where
-    pub holds-dense-next : HoldsDense g m r
-    holds-dense-next = record { below = lt-of-le-of-lt (sub-number r s (p .part)) (h .below); holds = λ t b d. p .keeps t d (h .holds t b d) }
-
-    pub holds-dense-all : r ≡ s → s ≡ core g m
-    holds-dense-all e = core-unique g m s (h .below) (p .still e) (h .holds)

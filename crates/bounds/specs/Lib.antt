@@ -1,5 +1,6 @@
 -- The core, the two-hop reach and the bounds: definitions first, then their laws.
 pub mod Core
+pub mod PassSetting
 pub mod Reach
 pub mod Pair
 pub mod Bound
@@ -7,6 +8,8 @@ pub mod Calls
 pub mod BoundCalls
 pub mod BoundSetting
 pub mod CoreLaws
+pub mod PassLaws
+pub mod DoubtLaws
 pub mod PairLaws
 pub mod ReachLaws
 pub mod CallLaws

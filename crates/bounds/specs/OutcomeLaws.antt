@@ -2,11 +2,12 @@
 -- passed its checks, so that the laws of what it answers hold of its input.
 use Prim.Native.Nat.{ℕ, _+_, _*_, _-_, _^_, _≤_, _<_}
 use native.Mathlib.Omega.{arith}
-use mathlib.Core.Path.{_≡_, sym, subst}
+use mathlib.Core.Path.{_≡_, refl, sym, ap, subst, _∙_}
 use mathlib.Core.List.{List, [], _∷_}
 use lib.Bits.{bitOr}
+use lib.Count.{ones-ones}
 use lib.ListN.{length}
-use Rattle.sets.specs.Set.{In, Sub, size, with}
+use Rattle.sets.specs.Set.{In, Sub, size, with, full}
 use Rattle.sets.specs.SubsetLaws.{sub-with, sub-trans, in-of-sub, with-same}
 use Rattle.judging.specs.Graph.{Valid}
 use Rattle.judging.specs.Plex.{Plex}
@@ -14,13 +15,14 @@ use Rattle.judging.specs.Request.{request}
 use Rattle.judging.specs.Refusal.{answered, firstOf, vertexOutCause}
 use Rattle.judging.specs.Calls.{graphCheck, requestCheck}
 use Rattle.judging.specs.RefusalLaws.{answered-passed, answered-value, answered-found, passed-front, graph-checked}
-use Rattle.bounds.specs.Core.{Dense, core}
+use Rattle.bounds.specs.Core.{Dense, core, leave, passes, Peeling, peeling}
 use Rattle.bounds.specs.Reach.{reach}
 use Rattle.bounds.specs.Bound.{firstBound, secondBound, largest}
 use Rattle.bounds.specs.Calls.{coreReply, reachCheck, reachReply}
 use Rattle.bounds.specs.BoundCalls.{boundCheck, firstBoundReply, secondBoundReply}
 use Rattle.bounds.specs.BoundSetting.{Boundable}
 use Rattle.bounds.specs.CoreLaws.{core-below, core-complete, core-dense, plex-core}
+use Rattle.bounds.specs.PassLaws.{holds-dense-none, passes-leave, passes-some, passes-most, one-pass-core, core-one-pass}
 use Rattle.bounds.specs.ReachLaws.{plex-reach}
 use Rattle.bounds.specs.BoundLaws.{second-first}
 use Rattle.bounds.specs.BoundSound.{second-sound, second-largest}
@@ -28,29 +30,57 @@ use Rattle.bounds.specs.BoundCallLaws.{bound-checked}
 
 -- ---- the core
 
-module _ (g : List ℕ) (k q : ℕ) {v c : ℕ} (e : coreReply g k q ≡ answered v c) where
+module _ (g : List ℕ) (k q : ℕ) {v : ℕ} {p : Peeling} (e : coreReply g k q ≡ answered v p) where
   pub core-value : v ≡ 0
   unfolding coreReply
-  core-value = answered-value (requestCheck g (request k q)) 0 (core g (q - k)) e
+  core-value = answered-value (requestCheck g (request k q)) 0 (peeling g (q - k)) e
 
-  pub core-answer : c ≡ core g (q - k)
+  found : p ≡ peeling g (q - k)
   unfolding coreReply
-  core-answer = answered-found (requestCheck g (request k q)) 0 (core g (q - k)) e
+  found = answered-found (requestCheck g (request k q)) 0 (peeling g (q - k)) e
+
+  pub core-answer : p .core ≡ core g (q - k)
+  unfolding peeling
+  core-answer = ap (λ (x : Peeling). x .core) found
 
   -- it is a set of vertices in which each is adjacent to at least q - k members
-  pub core-in-graph : c < 2 ^ length g
+  pub core-in-graph : p .core < 2 ^ length g
   core-in-graph = subst (λ (x : ℕ). x < 2 ^ length g) (sym core-answer) (core-below g (q - k))
 
-  pub core-is-dense : Dense g (q - k) c
+  pub core-is-dense : Dense g (q - k) (p .core)
   core-is-dense = subst (Dense g (q - k)) (sym core-answer) (core-dense g (q - k))
 
   -- the largest one
-  pub core-holds-dense : (s : ℕ) → s < 2 ^ length g → Dense g (q - k) s → Sub s c
+  pub core-holds-dense : (s : ℕ) → s < 2 ^ length g → Dense g (q - k) s → Sub s (p .core)
   core-holds-dense s b d = subst (Sub s) (sym core-answer) (core-complete g (q - k) s b d)
 
   -- so no k-plex of q or more members has a vertex outside it
-  pub core-holds-plexes : (s : ℕ) → s < 2 ^ length g → Plex g k s → q ≤ size s → Sub s c
-  core-holds-plexes s b p l = subst (Sub s) (sym core-answer) (plex-core g k q s b p l)
+  pub core-holds-plexes : (s : ℕ) → s < 2 ^ length g → Plex g k s → q ≤ size s → Sub s (p .core)
+  core-holds-plexes s b w l = subst (Sub s) (sym core-answer) (plex-core g k q s b w l)
+
+  -- it is what that many passes leave of all vertices
+  pub core-passes : p .passes ≡ passes g (q - k) (full (length g))
+  unfolding peeling
+  core-passes = ap (λ (x : Peeling). x .passes) found
+
+  pub core-by-passes : leave (p .passes) g (q - k) (full (length g)) ≡ p .core
+  core-by-passes = rw (core-passes, core-answer) (passes-leave g (q - k) (full (length g)) (holds-dense-none refl))
+
+  -- there is at least one pass, and one alone exactly where nothing is taken out
+  pub core-some-pass : 1 ≤ p .passes
+  core-some-pass = rw core-passes (passes-some g (q - k) (full (length g)))
+
+  pub core-one-pass-whole : p .passes ≡ 1 → p .core ≡ full (length g)
+  core-one-pass-whole one = core-answer ∙ one-pass-core g (q - k) (sym core-passes ∙ one)
+
+  pub core-whole-one-pass : p .core ≡ full (length g) → p .passes ≡ 1
+  core-whole-one-pass whole = core-passes ∙ core-one-pass g (q - k) (sym core-answer ∙ whole)
+
+  -- the passes are at most one more than the vertices taken out
+  pub core-passes-most : p .passes ≤ 1 + (length g - size (p .core))
+  core-passes-most =
+      let all = full (length g) in
+      omega (arith, core-passes, ap size core-answer, passes-most g (q - k) all (holds-dense-none refl), ones-ones (length g), core-some-pass)
 
 -- ---- the reach
 

@@ -1,5 +1,5 @@
--- The starred edges of document 01, "Edges to run", and those of looseness (document 02, card 2), as one table that the checker computes: what the
--- definitions give, beside what the document says.
+-- The starred edges of document 01, "Edges to run", those of looseness and those of passes (document 02, cards 2 and 4), as one table that the checker
+-- computes: what the definitions give, beside what the document says.
 use Prim.Native.Nat.{ℕ}
 use mathlib.Core.Bool.{Bool, true, false, _&&_}
 use mathlib.Core.List.{List, [], _∷_}
@@ -14,7 +14,7 @@ use Rattle.judging.specs.Plex.{plex, maximal, looseness}
 use Rattle.judging.specs.Refusal.{Reply, refused, answered, firstOf, outside, vertexCause, slackCause, floorCause}
 use Rattle.judging.specs.Refusal.{badRow, oneWay, lowestRow, rowCause, edgeCause, graphCauses, setCause, vertexOutCause}
 use Rattle.judging.specs.Calls.{graphCheck, slackCheck, requestCheck, insideCheck, setCheck, loosenessReply}
-use Rattle.bounds.specs.Core.{dense, core}
+use Rattle.bounds.specs.Core.{dense, core, look, passTo, pass, passesWithin, passes, Peeling, peeling}
 use Rattle.bounds.specs.Reach.{reach}
 use Rattle.bounds.specs.Bound.{support, usable, ordered, supports, packable, firstBound, lesser, least, tightest, kept, secondBound, largest}
 use Rattle.bounds.specs.Calls.{coreReply, reachCheck, reachReply}
@@ -38,6 +38,14 @@ single = 0 ∷ []
 path4 : List ℕ
 path4 = 0x2 ∷ 0x5 ∷ 0xA ∷ 0x4 ∷ []
 
+-- a path numbered from its middle: 2, 0, 1, 3
+outward4 : List ℕ
+outward4 = 0x6 ∷ 0x9 ∷ 0x1 ∷ 0x2 ∷ []
+
+-- 1 has 2, which lacks 1
+oneWay3 : List ℕ
+oneWay3 = 0x2 ∷ 0x5 ∷ 0x0 ∷ []
+
 -- 0, 1, 2 all adjacent; 3 adjacent to all others; 4, 5, 6 adjacent to 1, 2 and 3
 seven : List ℕ
 seven = 0x0E ∷ 0x7D ∷ 0x7B ∷ 0x77 ∷ 0x0E ∷ 0x0E ∷ 0x0E ∷ []
@@ -53,6 +61,11 @@ pub shown : Reply ℕ → List ℕ
 shown (refused n v) = n ∷ v ∷ []
 shown (answered v x) = 0 ∷ v ∷ x ∷ []
 
+-- a core with its passes
+shownCore : Reply Peeling → List ℕ
+shownCore (refused n v) = n ∷ v ∷ []
+shownCore (answered v p) = 0 ∷ v ∷ p .core ∷ p .passes ∷ []
+
 unfoldable pub agree : List ℕ → List ℕ → Bool
 agree [] [] = true
 agree [] (y ∷ ys) = false
@@ -66,8 +79,12 @@ hold (edge a b ∷ es) = agree a b && hold es
 pub edges : List Edge
 edges =
     edge (listing ring5 (request 2 3)) (0x07 ∷ 0x0E ∷ 0x13 ∷ 0x19 ∷ 0x1C ∷ [])
-    ∷ edge (shown (coreReply ring5 2 4)) (0 ∷ 0 ∷ 0x1F ∷ [])
-    ∷ edge (shown (coreReply ring5 2 5)) (0 ∷ 0 ∷ 0 ∷ [])
+    ∷ edge (shownCore (coreReply ring5 2 4)) (0 ∷ 0 ∷ 0x1F ∷ 1 ∷ [])
+    ∷ edge (shownCore (coreReply ring5 2 5)) (0 ∷ 0 ∷ 0 ∷ 2 ∷ [])
+    ∷ edge (shownCore (coreReply path4 1 3)) (0 ∷ 0 ∷ 0 ∷ 2 ∷ [])
+    ∷ edge (shownCore (coreReply outward4 1 3)) (0 ∷ 0 ∷ 0 ∷ 3 ∷ [])
+    ∷ edge (shownCore (coreReply outward4 2 4)) (0 ∷ 0 ∷ 0 ∷ 3 ∷ [])
+    ∷ edge (shownCore (coreReply oneWay3 1 1)) (5 ∷ 1 ∷ [])
     ∷ edge (listing ring4 (request 2 4)) (0xF ∷ [])
     ∷ edge (listing ring4 (request 1 2)) (0x3 ∷ 0x6 ∷ 0x9 ∷ 0xC ∷ [])
     ∷ edge (listing apart3 (request 1 1)) (1 ∷ 2 ∷ 4 ∷ [])
@@ -86,5 +103,5 @@ edges =
     ∷ []
 
 pub edges-hold : T (hold edges)
-unfolding hold edges shown agree ring5 ring4 apart3 single path4 seven from range first all any keep total greatest joined bit has ones onesIn subset with minus setOf members row adjacent degree missing plex maximal looseness firstOf outside vertexCause slackCause floorCause badRow oneWay lowestRow rowCause edgeCause graphCauses setCause vertexOutCause graphCheck slackCheck requestCheck insideCheck setCheck loosenessReply dense core reach support usable ordered supports packable firstBound lesser least tightest kept secondBound largest coreReply reachCheck reachReply overlap misplaced boundCause boundCheck firstBoundReply secondBoundReply listed listing
+unfolding hold edges shown shownCore agree ring5 ring4 apart3 single path4 outward4 oneWay3 seven from range first all any keep total greatest joined bit has ones onesIn subset with minus setOf members row adjacent degree missing plex maximal looseness firstOf outside vertexCause slackCause floorCause badRow oneWay lowestRow rowCause edgeCause graphCauses setCause vertexOutCause graphCheck slackCheck requestCheck insideCheck setCheck loosenessReply dense core look passTo pass passesWithin passes peeling reach support usable ordered supports packable firstBound lesser least tightest kept secondBound largest coreReply reachCheck reachReply overlap misplaced boundCause boundCheck firstBoundReply secondBoundReply listed listing
 edges-hold = tt
