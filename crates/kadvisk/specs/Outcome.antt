@@ -2,6 +2,7 @@
 --
 --   outcome found reply     the number, the value and what was found; of a refusal nothing is found, and that is 0
 --   yesNo, itself, nothing  what is found as a number: 1 for yes and 0 for no; a looseness, a set's mask or a bound; 0 where the value says all
+--   coreOutcome reply       the same of a core, with its passes; of a refusal both are 0
 --   readOutcome reply       the same of a sheet that is read, with its n, k and q; of a refusal these are 0
 --   ListOutcome, ..         the outcome and the lent buffers at exit, as the promise of the call that lists, changes a book, reads a sheet or writes one
 use Prim.Native.Nat.{ℕ}
@@ -11,12 +12,14 @@ use mathlib.Core.List.{List}
 use lib.ListN.{length}
 use Rattle.judging.specs.Request.{Request}
 use Rattle.judging.specs.Refusal.{Reply, replyNumber, replyValue, foundIn}
+use Rattle.bounds.specs.Core.{Peeling}
 use Rattle.search.specs.Calls.{listReply, slotsAfter}
 use Rattle.books.specs.Book.{Change}
 use Rattle.books.specs.Calls.{changeReply, rowsChanged, slotsChanged}
 use Rattle.sheets.specs.Calls.{Heading, headingOf}
 use Rattle.sheets.specs.Sheet.{sheetText, reading, writing, rowsAfter, textAfter}
 use Rattle.kadvisk.specs.declared.Outcome.{Outcome}
+use Rattle.kadvisk.specs.declared.CoreOutcome.{CoreOutcome}
 use Rattle.kadvisk.specs.declared.ReadOutcome.{ReadOutcome}
 
 abbrev pub outcome : {A : Type 0} → (A → ℕ) → Reply A → Outcome
@@ -30,6 +33,15 @@ itself x = x
 
 abbrev pub nothing : Unit {0} → ℕ
 nothing u = 0
+
+abbrev pub coreOutcome : Reply Peeling → CoreOutcome
+coreOutcome r =
+    record {
+      number = replyNumber r;
+      value = replyValue r;
+      core = foundIn (λ p. p .core) r;
+      passes = foundIn (λ p. p .passes) r;
+    }
 
 abbrev pub readOutcome : Reply Heading → ReadOutcome
 readOutcome r =

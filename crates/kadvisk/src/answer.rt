@@ -8,7 +8,8 @@ ghost use Rattle.largest.specs.Calls.{largestFoundReply};
 ghost use Rattle.sheets.specs.Calls.{readReply, writtenReply};
 ghost use Rattle.judging.specs.Refusal.{answered};
 ghost use Rattle.judging.specs.Calls.{refusal};
-ghost use Rattle.kadvisk.specs.Outcome.{outcome, readOutcome, yesNo, itself, nothing};
+ghost use Rattle.kadvisk.specs.Outcome.{outcome, coreOutcome, readOutcome, yesNo, itself, nothing};
+use crate::CoreOutcome;
 use crate::Outcome;
 use crate::ReadOutcome;
 use bounds::BoundFound;
@@ -75,12 +76,29 @@ pub fn judged(answer: Judged) -> Outcome
     }
 }
 
-pub fn core(answer: CoreFound) -> Outcome
-    ensures { λ r. ⌜ r ≡ outcome itself (coreFoundReply answer) ⌝ }
+pub fn core(answer: CoreFound) -> CoreOutcome
+    ensures { λ r. ⌜ r ≡ coreOutcome (coreFoundReply answer) ⌝ }
 {
     match answer {
-        CoreFound::Core(s) => found(sets::word(s, 0)),
-        CoreFound::Refused(f) => refused(f),
+        CoreFound::Core(peeled) => {
+            let core = peeled.core;
+            CoreOutcome {
+                number: 0,
+                value: 0,
+                core: sets::word(core, 0),
+                passes: peeled.passes,
+            }
+        }
+        CoreFound::Refused(f) => {
+            let number = judging::number(f);
+            let value = judging::value(f);
+            CoreOutcome {
+                number,
+                value,
+                core: 0,
+                passes: 0,
+            }
+        }
     }
 }
 

@@ -8,7 +8,7 @@ ghost use Rattle.bounds.specs.Calls.{coreReply, reachReply};
 ghost use Rattle.bounds.specs.BoundCalls.{firstBoundReply, secondBoundReply};
 ghost use Rattle.largest.specs.Calls.{largestReply};
 ghost use Rattle.books.specs.Book.{change};
-ghost use Rattle.kadvisk.specs.Outcome.{outcome, yesNo, itself, ListOutcome, ChangeOutcome, ReadSheetOutcome, WriteSheetOutcome};
+ghost use Rattle.kadvisk.specs.Outcome.{outcome, coreOutcome, yesNo, itself, ListOutcome, ChangeOutcome, ReadSheetOutcome, WriteSheetOutcome};
 
 mod answer;
 
@@ -22,6 +22,15 @@ pub struct Outcome {
     pub number: usize,
     pub value: usize,
     pub found: u64,
+}
+
+// The outcome of a question for the core: of a success its mask, and the number of passes that it took. Both are 0 with a refusal.
+#[repr(C)]
+pub struct CoreOutcome {
+    pub number: usize,
+    pub value: usize,
+    pub core: u64,
+    pub passes: usize,
 }
 
 // The outcome of reading a sheet: of a success n, the slack and the floor, which are 0 with a refusal.
@@ -53,10 +62,10 @@ pub extern "C" fn kadvisk_is_maximal(rows: &[u64], slack: usize, s: u64) -> Outc
     answer::judged(judged)
 }
 
-// The core for this slack and floor. Found: its mask. Refusals: 1, 2, 3, 4, 5.
+// The core for this slack and floor, and the number of passes by rising number that peel it out, the last of which takes none. Refusals: 1, 2, 3, 4, 5.
 #[no_mangle]
-pub extern "C" fn kadvisk_core(rows: &[u64], slack: usize, floor: usize) -> Outcome
-    ensures { λ r. ⌜ r ≡ outcome itself (coreReply (masks (now (rows .entry))) slack floor) ⌝ }
+pub extern "C" fn kadvisk_core(rows: &[u64], slack: usize, floor: usize) -> CoreOutcome
+    ensures { λ r. ⌜ r ≡ coreOutcome (coreReply (masks (now (rows .entry))) slack floor) ⌝ }
 {
     let found = bounds::find_core(rows, Request { slack, floor });
     answer::core(found)

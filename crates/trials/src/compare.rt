@@ -2,6 +2,7 @@
 ghost use Prim.Native.Nat.{_≤_};
 use crate::all_sets;
 use crate::changes;
+use crate::cores;
 use crate::graphs;
 use crate::largest_plex;
 use crate::looseness;
@@ -17,7 +18,7 @@ use search::ListFound;
 
 const MOST_VERTICES: usize = 16;
 
-// The most vertices where every set is asked for: forced, or how loose it is.
+// The most vertices where every set is asked for, forced or how loose it is, and where every core is.
 const MOST_ASKED: usize = 10;
 
 // The most vertices where all sets are tried after each change.
@@ -136,6 +137,7 @@ pub enum Call {
     Largest,
     Looseness,
     Change,
+    Core,
 }
 
 // The graph of the family with a vertex for each row.
@@ -146,6 +148,7 @@ fn built(cases: Tally, call: Call, rows: &mut [u64], family: usize, variant: usi
         Call::Largest => largest_plex::graph(cases, rows),
         Call::Looseness => looseness::graph(cases, rows),
         Call::Change => changes::graph(cases, rows, variant),
+        Call::Core => cores::graph(cases, rows),
     }
 }
 
@@ -174,6 +177,7 @@ fn most_vertices(call: Call) -> usize {
         Call::Largest => MOST_ASKED,
         Call::Looseness => MOST_ASKED,
         Call::Change => MOST_CHANGED,
+        Call::Core => MOST_ASKED,
     }
 }
 

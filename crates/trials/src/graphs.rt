@@ -24,6 +24,14 @@ pub const COCKTAIL: usize = 7;
 // Complete, but vertex 0 is not adjacent to the next 31: so all are a 32-plex, and no more if it lacks one more.
 pub const LACKING: usize = 8;
 
+// A path numbered from its middle: .., 4, 2, 0, 1, 3, 5, ..
+pub const OUTWARD: usize = 9;
+
+// A path with a triangle of its lowest vertices, and one of its highest: its other end is the highest vertex, or the lowest.
+pub const RISING: usize = 10;
+
+pub const FALLING: usize = 11;
+
 // No vertex has this number.
 pub const NOWHERE: usize = sets::WIDTH;
 
@@ -65,6 +73,9 @@ fn adjacent(family: usize, variant: usize, n: usize, a: usize, b: usize, x: u64)
         MULTIPARTITE => apart % (variant % 4 + 2) != 0,
         COCKTAIL => a / 2 != b / 2 && b < 24,
         LACKING => a != 0 || 31 < b,
+        OUTWARD => apart == 2 || b == 1,
+        RISING => apart == 1 || b == 2,
+        FALLING => apart == 1 || (apart == 2 && n - 1 == b),
         _ => apart % (variant % 4 + 2) == 0 && within(x, 100 - variant / 4 % 2 * 30),
     }
 }

@@ -1,11 +1,13 @@
 // Runs the edge cases of documents 01 and 02 that are not proved, and compares with trying all sets: the lists for graphs of 1 to 16 vertices, for graphs
-// of 1 to 10 the largest k-plex with each set forced, and how loose each set is, and for graphs of 2 to 14 the list after each of some changes. Prints a
-// line for each group: how many cases it has, and how many of them differ. Where an answer differs, its graph is printed as a sheet.
+// of 1 to 10 the largest k-plex with each set forced, how loose each set is, and the core of each slack and floor with its passes, and for graphs of 2 to 14
+// the list after each of some changes. Prints a line for each group: how many cases it has, and how many of them differ. Where an answer differs, its graph
+// is printed as a sheet.
 mod all_sets;
 mod change_edges;
 mod change_refusals;
 mod changes;
 mod compare;
+mod cores;
 mod graphs;
 mod largest_plex;
 mod lists;
@@ -47,6 +49,10 @@ fn looseness_cases() {
     tally::print(b"refusals of looseness", looseness::refused());
 }
 
+fn core_cases() {
+    tally::print(b"cores and passes", cores::found());
+}
+
 fn largest_cases() {
     tally::print(b"largest k-plexes", largest_plex::found());
     tally::print(b"refusals of the largest", largest_plex::refused());
@@ -75,7 +81,7 @@ fn comparisons() {
 }
 
 // Another call on the same graphs, where they have at most 10 vertices.
-fn every_set(call: Call) -> Tally {
+fn every_graph(call: Call) -> Tally {
     let mut cases = compare::group(tally::none(), call, graphs::COMPLETE, 1);
     cases = compare::group(cases, call, graphs::RING, 1);
     cases = compare::group(cases, call, graphs::PATH, 1);
@@ -101,13 +107,15 @@ fn main() {
     refusal_cases();
     sheet_cases();
     looseness_cases();
+    core_cases();
     largest_cases();
     change_cases();
     comparisons();
-    tally::print(b"largest against all sets", every_set(Call::Largest));
+    tally::print(b"largest against all sets", every_graph(Call::Largest));
     tally::print(
         b"looseness against the definition",
-        every_set(Call::Looseness),
+        every_graph(Call::Looseness),
     );
+    tally::print(b"cores against the definition", every_graph(Call::Core));
     tally::print(b"changes against all sets", changed());
 }
