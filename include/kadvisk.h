@@ -47,6 +47,14 @@ typedef struct {
     uint64_t found; /* what a question found; 0 with a refusal, and where the call names nothing found */
 } kadvisk_outcome;
 
+/* The outcome of a question for the core. The last two are 0 with a refusal. */
+typedef struct {
+    size_t number;
+    size_t value;  /* of a refusal as above; of a success 0 */
+    uint64_t core; /* its mask */
+    size_t passes; /* how many passes it took, the last of which took none */
+} kadvisk_core_outcome;
+
 /* The outcome of reading a sheet. The last three are 0 with a refusal. */
 typedef struct {
     size_t number;
@@ -64,8 +72,10 @@ kadvisk_outcome kadvisk_looseness(const uint64_t *rows, size_t n, uint64_t s);
 kadvisk_outcome kadvisk_is_maximal(const uint64_t *rows, size_t n, size_t slack, uint64_t s);
 
 /* The core: the largest set in which every member is adjacent to at least q - k members. It may be empty, and holds every k-plex of q or more members.
- * Found: its mask. Refusals, in this order: 1, 2, 3, 4, 5. */
-kadvisk_outcome kadvisk_core(const uint64_t *rows, size_t n, size_t slack, size_t floor);
+ * Passes: a pass goes through the vertices left by rising number and takes out each that is adjacent to fewer than q - k of those still left, before it
+ * looks at the next. The first that takes none is the last, and counts: 1 where nothing is taken out, and at most one more than the vertices that are.
+ * Refusals, in this order: 1, 2, 3, 4, 5. */
+kadvisk_core_outcome kadvisk_core(const uint64_t *rows, size_t n, size_t slack, size_t floor);
 
 /* The two-hop reach of the vertex v: all vertices at most two edges away, itself included. Found: its mask. Refusals, in this order: 1, 4, 5, 7. */
 kadvisk_outcome kadvisk_reach(const uint64_t *rows, size_t n, size_t v);

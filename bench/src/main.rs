@@ -1,15 +1,16 @@
 //! Times the library on graphs of our own making: with each cut switched, against independent implementations, what placing costs, how the time
-//! grows, the largest k-plex, and changes of a book.
+//! grows, the largest k-plex, changes of a book, and the core alone.
 //! Prints tables in Markdown. One command:
 //!
 //!   cargo run --release --offline --package bench
 //!
-//!   bench --part NAME     cuts, placing, growth, largest or changes alone, or wide: many instances of other kinds
+//!   bench --part NAME     cuts, placing, growth, largest, changes or cores alone, or wide: many instances of other kinds
 //!   bench --only NAME     the rows of one graph in the tables of cuts, of the largest k-plex and of changes
 //!   bench --rivals        the table of cuts with the independent implementations alone
 //!   bench --limit S       leave a run that takes more than S seconds (3)
 mod changes;
 mod clock;
+mod cores;
 mod largest;
 mod rows;
 mod variants;
@@ -244,6 +245,9 @@ fn main() {
     }
     if part("changes") {
         changes::all(after("--only"), limit);
+    }
+    if part("cores") && after("--only").is_none() {
+        cores::all();
     }
     if after("--part") == Some("wide") {
         wide::all();

@@ -1,4 +1,4 @@
-/* Five vertices in a ring: tells how loose a set is, takes the core, lists the maximal 2-plexes of three or more vertices, finds the largest that
+/* Five vertices in a ring: tells how loose a set is, takes the core at two floors, lists the maximal 2-plexes of three or more vertices, finds the largest that
  * holds a vertex, keeps the list in a book while an edge is added, and writes and reads the sheet. */
 #include <inttypes.h>
 #include <stdio.h>
@@ -17,7 +17,10 @@ int main(void) {
 
     printf("07 is a k-plex from k = %" PRIu64 " on\n", kadvisk_looseness(ring, 5, 0x07).found);
     printf("is 07 a maximal 2-plex: %" PRIu64 "\n", kadvisk_is_maximal(ring, 5, 2, 0x07).found);
-    printf("core at floor 4: %02" PRIX64 "\n", kadvisk_core(ring, 5, 2, 4).found);
+    for (size_t floor = 4; floor <= 5; floor++) {
+        kadvisk_core_outcome core = kadvisk_core(ring, 5, 2, floor);
+        printf("core at floor %zu: %02" PRIX64 ", passes %zu\n", floor, core.core, core.passes);
+    }
     printf("reach of 0: %02" PRIX64 "\n", kadvisk_reach(ring, 5, 0).found);
 
     kadvisk_outcome list = kadvisk_list(ring, 5, 2, 3, slots, 8);

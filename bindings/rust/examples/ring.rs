@@ -1,10 +1,13 @@
-//! Five vertices in a ring: tells how loose a set is, takes the core, lists the maximal 2-plexes of three or more vertices, finds the largest with a given
+//! Five vertices in a ring: tells how loose a set is, takes the core at two floors, lists the maximal 2-plexes of three or more vertices, finds the largest with a given
 //! vertex, and keeps the list in a book while an edge is added.
 
 fn main() -> Result<(), kadvisk::Refusal> {
     let ring = [0x12, 0x05, 0x0A, 0x14, 0x09];
     println!("07 is a k-plex from k = {} on", kadvisk::looseness(&ring, 0x07)?);
-    println!("core at floor 4: {:02X}", kadvisk::core(&ring, 2, 4)?);
+    for floor in [4, 5] {
+        let core = kadvisk::core(&ring, 2, floor)?;
+        println!("core at floor {floor}: {:02X}, passes {}", core.mask, core.passes);
+    }
     for mask in kadvisk::list_all(&ring, 2, 3)? {
         println!("{mask:02X}");
     }

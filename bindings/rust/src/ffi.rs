@@ -10,6 +10,16 @@ pub struct Outcome {
     pub found: u64,
 }
 
+/// The outcome of a question for the core. The last two are 0 with a refusal.
+#[repr(C)]
+#[derive(Clone, Copy, Debug, PartialEq, Eq)]
+pub struct CoreOutcome {
+    pub number: usize,
+    pub value: usize,
+    pub core: u64,
+    pub passes: usize,
+}
+
 /// The outcome of reading a sheet. The last three are 0 with a refusal.
 #[repr(C)]
 #[derive(Clone, Copy, Debug, PartialEq, Eq)]
@@ -24,7 +34,7 @@ pub struct ReadOutcome {
 extern "C" {
     pub fn kadvisk_looseness(rows: *const u64, n: usize, s: u64) -> Outcome;
     pub fn kadvisk_is_maximal(rows: *const u64, n: usize, slack: usize, s: u64) -> Outcome;
-    pub fn kadvisk_core(rows: *const u64, n: usize, slack: usize, floor: usize) -> Outcome;
+    pub fn kadvisk_core(rows: *const u64, n: usize, slack: usize, floor: usize) -> CoreOutcome;
     pub fn kadvisk_reach(rows: *const u64, n: usize, v: usize) -> Outcome;
     pub fn kadvisk_first_bound(rows: *const u64, n: usize, slack: usize, s: u64, c: u64, v: usize) -> Outcome;
     pub fn kadvisk_second_bound(rows: *const u64, n: usize, slack: usize, s: u64, c: u64, v: usize) -> Outcome;

@@ -167,6 +167,15 @@ pub struct Heading {
     pub floor: usize,
 }
 
+/// The core of a graph, for a slack and a floor.
+#[derive(Clone, Copy, Debug, PartialEq, Eq)]
+pub struct Core {
+    /// Its mask.
+    pub mask: u64,
+    /// How many passes it took, the last of which took none: 1 where every vertex is in the core.
+    pub passes: usize,
+}
+
 /// The largest k-plex that holds forced vertices.
 #[derive(Clone, Copy, Debug, PartialEq, Eq)]
 pub struct Largest {
@@ -219,9 +228,21 @@ pub fn is_maximal(rows: &[u64], slack: usize, s: u64) -> Result<bool, Refusal> {
 /// The core: the largest set in which every member is adjacent to at least `floor - slack` members. It may be empty, and holds every k-plex of
 /// `floor` or more members.
 ///
+/// It is found in passes. A pass goes through the vertices left by rising number and takes out each that is adjacent to fewer than `floor - slack` of
+/// those still left, before it looks at the next. The first pass that takes none is the last, and counts. So there is at least one, and there are at
+/// most one more than vertices taken out.
+///
+/// ```
+/// // a triangle of 0, 1 and 2, and a path from 2 to 3 and on to 4: a pass takes 4, the next 3, and the last none
+/// let rows = [0x06, 0x05, 0x0B, 0x14, 0x08];
+/// assert_eq!(kadvisk::core(&rows, 1, 3)?, kadvisk::Core { mask: 0x07, passes: 3 });
+/// # Ok::<(), kadvisk::Refusal>(())
+/// ```
+///
 /// Refusals, in this order: 1, 2, 3, 4, 5.
-pub fn core(rows: &[u64], slack: usize, floor: usize) -> Result<u64, Refusal> {
-    found(unsafe { ffi::kadvisk_core(rows.as_ptr(), rows.len(), slack, floor) })
+pub fn core(rows: &[u64], slack: usize, floor: usize) -> Result<Core, Refusal> {
+    let outcome = unsafe { ffi::kadvisk_core(rows.as_ptr(), rows.len(), slack, floor) };
+    answered(outcome.number, outcome.value).map(|()| Core { mask: outcome.core, passes: outcome.passes })
 }
 
 /// The two-hop reach of the vertex `v`: all vertices at most two edges away, itself included.

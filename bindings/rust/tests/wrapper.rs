@@ -1,5 +1,5 @@
 //! The safe functions: what they make of outcomes and refusals.
-use kadvisk::{Book, Cuts, Heading, Largest, Refusal};
+use kadvisk::{Book, Core, Cuts, Heading, Largest, Refusal};
 
 const RING: [u64; 5] = [0x12, 0x05, 0x0A, 0x14, 0x09];
 const LIST: [u64; 5] = [0x07, 0x0E, 0x13, 0x19, 0x1C];
@@ -15,8 +15,10 @@ fn questions() {
     assert_eq!(kadvisk::looseness(&RING, 0x20), Err(Refusal::Outside));
     assert_eq!(kadvisk::is_maximal(&RING, 2, 0x07), Ok(true));
     assert_eq!(kadvisk::is_maximal(&RING, 2, 0x03), Ok(false));
-    assert_eq!(kadvisk::core(&RING, 2, 4), Ok(0x1F));
-    assert_eq!(kadvisk::core(&RING, 2, 5), Ok(0));
+    assert_eq!(kadvisk::core(&RING, 2, 4), Ok(Core { mask: 0x1F, passes: 1 }));
+    assert_eq!(kadvisk::core(&RING, 2, 5), Ok(Core { mask: 0, passes: 2 }));
+    assert_eq!(kadvisk::core(&RING, 2, 2), Err(Refusal::Floor));
+    assert_eq!(kadvisk::core(&[0x12, 0x05, 0x0A, 0x14, 0x08], 2, 4), Err(Refusal::OneWay(0)));
     assert_eq!(kadvisk::reach(&[2, 5, 10, 4], 0), Ok(7));
     let seven = [0x0E, 0x7D, 0x7B, 0x77, 0x0E, 0x0E, 0x0E];
     assert_eq!(kadvisk::first_bound(&seven, 2, 0x07, 0x78, 3), Ok(8));

@@ -10,11 +10,13 @@ use native.Mathlib.Nat.{le-refl, le-trans, lt-of-le-of-lt, lt-of-not-le, le-of-s
 use native.Mathlib.Numerals.{add-one}
 use native.Mathlib.Omega.{arith}
 use mathlib.Core.Path.{_≡_, refl, sym, ap, subst, _∙_}
+use mathlib.Core.Bool.{Bool, cond}
 use mathlib.Core.List.{List}
 use lib.Bits.{bitAnd, bitOr, and-le-r, or-lt}
 use lib.Pow.{pow-pos, pow-mono}
 use lib.Count.{ones-ones}
 use lib.ListN.{length}
+use borrow.Author.Tests.{le-leb, lt-leb}
 use Rattle.sets.specs.Set.{bit, In, Sub, size, without, full, minus}
 use Rattle.sets.specs.Words.{Lowest}
 use Rattle.sets.specs.Graph.{row}
@@ -26,8 +28,8 @@ use Rattle.sets.specs.WordLaws.{bit-full, bit-full-out}
 use Rattle.judging.specs.Graph.{degree, Valid}
 use Rattle.judging.specs.Setting.{Sized}
 use Rattle.bounds.specs.Core.{core, look, passTo, pass, passes}
-use Rattle.bounds.specs.PassSetting.{Sure, Doubtable, Passes}
-use Rattle.bounds.specs.PassLaws.{look-stays, look-goes, look-none, pass-to-sub, pass-to-next, pass-to-same, pass-sub}
+use Rattle.bounds.specs.PassSetting.{doubts, Sure, Doubtable, Passes}
+use Rattle.bounds.specs.PassLaws.{by-look, look-stays, look-goes, look-none, pass-to-sub, pass-to-next, pass-to-same, pass-sub}
 use Rattle.bounds.specs.PassLaws.{passes-last, passes-more, passes-some, passes-most, HoldsDense, holds-dense-none, holds-dense-next, holds-dense-all}
 
 -- a vertex that is not adjacent to v loses nothing with it
@@ -38,6 +40,37 @@ degree-apart g s u v out =
     omega (arith, bit-and s (row g u) w, bit-and (without s v) (row g u) w, bit-without s v w, single-out (row g u) v w out))
 
 -- ---- a look at v
+
+doubts-stays : (g : List ℕ) (m s d v : ℕ) → m ≤ degree g s v → doubts g m s d v ≡ d
+unfolding doubts
+doubts-stays g m s d v many = ap (λ (b : Bool). cond b d (bitOr d (bitAnd (without s v) (row g v)))) (le-leb m (degree g s v) many)
+
+doubts-goes : (g : List ℕ) (m s d v : ℕ) → degree g s v < m → doubts g m s d v ≡ bitOr d (bitAnd (without s v) (row g v))
+unfolding doubts
+doubts-goes g m s d v few = ap (λ (b : Bool). cond b d (bitOr d (bitAnd (without s v) (row g v)))) (lt-leb m (degree g s v) few)
+
+-- as the code looks at v, which is adjacent to n members of s
+module _ (g : List ℕ) (m s d v : ℕ) {n : ℕ} (e : n ≡ degree g s v) where
+  pub looks-stays : m ≤ n → (s ≡ look g m s v) × (d ≡ doubts g m s d v)
+  looks-stays l =
+      let many : m ≤ degree g s v = omega arith in
+      (sym (look-stays g m s v many), sym (doubts-stays g m s d v many))
+
+  pub looks-goes : n < m → {r b c : ℕ} → r ≡ without s v → b ≡ bitAnd r (row g v) → c ≡ bitOr d b → (r ≡ look g m s v) × (c ≡ doubts g m s d v)
+  looks-goes l {r} {b} {c} gone beside joined =
+      let few : degree g s v < m = omega arith in (
+        gone ∙ sym (look-goes g m s v few),
+        joined ∙ ap (bitOr d) (beside ∙ ap (λ (x : ℕ). bitAnd x (row g v)) gone) ∙ sym (doubts-goes g m s d v few),
+      )
+
+by-degree : {P : Type 0} (g : List ℕ) (m s v : ℕ) → (m ≤ degree g s v → P) → (degree g s v < m → P) → P
+by-degree {P} g m s v many few = by-look (λ (x : ℕ). P) g m s v many few
+
+doubts-below : {g : List ℕ} (m s : ℕ) {d v : ℕ} → Valid g → v < length g → d < 2 ^ length g → doubts g m s d v < 2 ^ length g
+doubts-below {g} m s {d} {v} valid l b =
+    by-degree g m s v (λ many. rw (doubts-stays g m s d v many) b) (λ few.
+    rw (doubts-goes g m s d v few)
+    (or-lt (length g) d (bitAnd (without s v) (row g v)) b (lt-of-le-of-lt (and-le-r (without s v) (row g v)) (valid .low v l))))
 
 abbrev Looked : ℕ → ℕ → ℕ → ℕ → ℕ → Type 0
 Looked v e d e′ d′ = (u : ℕ) → u < e′ → bit (2 ^ v) u ≡ 0 → bit d′ u ≡ 0 → (u < e) × (bit d u ≡ 0)
@@ -68,6 +101,11 @@ module _ {g : List ℕ} {m e kept d : ℕ} (v : ℕ) (h : Sure g m e kept d) (e�
             (degree-apart g kept u v (sym (valid .mutually v u b (omega arith)) ∙ out)));
       }
 
+  sure-next : Valid g → v < length g → e′ ≤ length g → Sure g m e′ (look g m kept v) (doubts g m kept d′ v)
+  sure-next valid b most =
+      by-degree g m kept v (λ many. rw (look-stays g m kept v many, doubts-stays g m kept d′ v many) (sure-stays many)) (λ few.
+      rw (look-goes g m kept v few, doubts-goes g m kept d′ v few) (sure-goes valid b most))
+
 -- ---- the first pass
 
 pub record FirstPass (g : List ℕ) (m s v kept doubt : ℕ) : Type 0 where
@@ -79,26 +117,17 @@ pub first-pass-none : {g : List ℕ} {m s d : ℕ} → FirstPass g m s 0 s d
 unfolding passTo
 first-pass-none = record { done = refl; sure = record { enough = λ u l i o. absurd (not-suc-le-zero l) }; most = omega arith }
 
-module _ {g : List ℕ} {m s v kept doubt d : ℕ} (p : FirstPass g m s v kept doubt) (b : v < length g) (deg : d ≡ degree g kept v) where
-  looked : Looked v v doubt (v + 1) doubt
-  looked u l other o = (lt-of-not-le (λ here. omega (arith, ap (λ (x : ℕ). bit (2 ^ x) u) (le-antisymm here (omega arith)), bit-pow-same u)), o)
-
-  pub first-pass-stays : m ≤ d → FirstPass g m s (v + 1) kept doubt
-  first-pass-stays many =
-      let enough : m ≤ degree g kept v = omega arith in
-      record {
-        done = pass-to-next g m s v (p .done) (look-stays g m kept v enough);
-        sure = sure-stays v (p .sure) (v + 1) doubt looked enough;
-        most = omega arith;
-      }
-
-  pub first-pass-goes : Valid g → d < m → FirstPass g m s (v + 1) (without kept v) (bitOr doubt (bitAnd (without kept v) (row g v)))
-  first-pass-goes valid few =
-      record {
-        done = pass-to-next g m s v (p .done) (look-goes g m kept v (omega arith));
-        sure = sure-goes v (p .sure) (v + 1) doubt looked valid b (omega arith);
-        most = omega arith;
-      }
+pub first-pass-next : {g : List ℕ} {m s v kept doubt : ℕ} → FirstPass g m s v kept doubt → Valid g → v < length g
+    → FirstPass g m s (v + 1) (look g m kept v) (doubts g m kept doubt v)
+first-pass-next {g} {m} {s} {v} {kept} {doubt} p valid b =
+    record {
+      done = pass-to-next g m s v (p .done) refl;
+      sure = sure-next v (p .sure) (v + 1) doubt below valid b (omega arith);
+      most = omega arith;
+    }
+  where
+    below : Looked v v doubt (v + 1) doubt
+    below u l other o = (lt-of-not-le (λ here. omega (arith, ap (λ (x : ℕ). bit (2 ^ x) u) (le-antisymm here (omega arith)), bit-pow-same u)), o)
 
 -- what was taken out since it came into doubt is not looked at again
 pub first-pass-all : {g : List ℕ} {m s v kept doubt : ℕ} → FirstPass g m s v kept doubt → length g ≤ v → s < 2 ^ length g
@@ -177,30 +206,15 @@ module _ {g : List ℕ} {m s seen kept doubt : ℕ} (p : LaterPass g m s seen ke
     later-pass-falls =
         omega (arith, p .at, pow-mono after-cursor, two-pow-succ v, ap (λ (x : ℕ). 2 ^ x) (add-one v), pow-pos v, pow-mono later-pass-vertex)
 
-    pub later-pass-stays : {d : ℕ} → d ≡ degree g kept v → m ≤ d → LaterPass g m s (full (v + 1)) kept (without doubt v)
-    later-pass-stays deg many =
-        let enough : m ≤ degree g kept v = omega arith in
+    pub later-pass-next : Valid g → LaterPass g m s (full (v + 1)) (look g m kept v) (doubts g m kept (without doubt v) v)
+    later-pass-next valid =
         record {
           cursor = v + 1;
           at = refl;
           most = omega (arith, later-pass-vertex);
-          done = pass-to-next g m s v so-far (look-stays g m kept v enough);
-          below = minus-below (length g) doubt (2 ^ v) (p .below);
-          sure = sure-stays v (p .sure) (length g) (without doubt v) looked-later enough;
-        }
-
-    pub later-pass-goes : {d : ℕ} → d ≡ degree g kept v → Valid g → d < m
-        → LaterPass g m s (full (v + 1)) (without kept v) (bitOr (without doubt v) (bitAnd (without kept v) (row g v)))
-    later-pass-goes deg valid few =
-        record {
-          cursor = v + 1;
-          at = refl;
-          most = omega (arith, later-pass-vertex);
-          done = pass-to-next g m s v so-far (look-goes g m kept v (omega arith));
-          below =
-              or-lt (length g) (without doubt v) (bitAnd (without kept v) (row g v)) (minus-below (length g) doubt (2 ^ v) (p .below))
-              (lt-of-le-of-lt (and-le-r (without kept v) (row g v)) (valid .low v later-pass-vertex));
-          sure = sure-goes v (p .sure) (length g) (without doubt v) looked-later valid later-pass-vertex (le-refl (length g));
+          done = pass-to-next g m s v so-far refl;
+          below = doubts-below m kept valid later-pass-vertex (minus-below (length g) doubt (2 ^ v) (p .below));
+          sure = sure-next v (p .sure) (length g) (without doubt v) looked-later valid later-pass-vertex (le-refl (length g));
         }
 
 -- ---- pass after pass

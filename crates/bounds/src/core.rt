@@ -9,8 +9,8 @@ ghost use Rattle.sets.specs.Set.{full};
 ghost use Rattle.sets.specs.Graph.{row};
 ghost use Rattle.judging.specs.Graph.{degree, Valid};
 ghost use Rattle.judging.specs.Setting.{Sized, Judgeable};
-ghost use Rattle.bounds.specs.Core.{core, passes};
-ghost use Rattle.bounds.specs.PassSetting.{Doubtable, Passes};
+ghost use Rattle.bounds.specs.Core.{core, look, passes};
+ghost use Rattle.bounds.specs.PassSetting.{doubts, Doubtable, Passes};
 use sets::Set;
 
 // The core, and the number of passes that it took.
@@ -41,6 +41,20 @@ fn degree(rows: &[u64], s: Set, v: usize) -> usize
     sets::size(beside(rows, s, v))
 }
 
+// v is looked at: it goes where it is adjacent to fewer than m of those left, and then those that it is adjacent to come into doubt.
+fn look(rows: &[u64], m: usize, s: Set, doubt: Set, v: usize) -> Passed
+    requires { ⌜ (v < length (masks (now rows))) × (v < width) ⌝ }
+    ensures { λ r. ⌜ (mask (r .kept) ≡ look (masks (now (rows .entry))) m (mask s) v)
+        × (mask (r .doubt) ≡ doubts (masks (now (rows .entry))) m (mask s) (mask doubt) v) ⌝ }
+{
+    if m <= degree(rows, s, v) {
+        return Passed { kept: s, doubt };
+    }
+    let kept = sets::without(s, v);
+    let more = sets::join(doubt, beside(rows, kept, v));
+    Passed { kept, doubt: more }
+}
+
 // One pass through s by rising number: takes out each vertex that is adjacent to fewer than m of those still left, before it looks at the next.
 fn first_pass(rows: &[u64], m: usize, s: Set) -> Passed
     requires { ⌜ Judgeable (masks (now rows)) (mask s) ⌝ }
@@ -50,16 +64,14 @@ fn first_pass(rows: &[u64], m: usize, s: Set) -> Passed
     let mut doubt = sets::empty();
     let mut v = 0;
     while v < sets::count(rows) {
-        if degree(rows, kept, v) < m {
-            kept = sets::without(kept, v);
-            doubt = sets::join(doubt, beside(rows, kept, v));
-        }
+        let looked = look(rows, m, kept, doubt, v);
+        kept = looked.kept;
+        doubt = looked.doubt;
         v += 1;
     }
-    Passed {
-        kept,
-        doubt: sets::meet(kept, doubt),
-    }
+    // what was taken out after it came into doubt is not looked at again
+    let left = sets::meet(kept, doubt);
+    Passed { kept, doubt: left }
 }
 
 // The same, where only the members of s that are in doubt may go, and those that lose a neighbour on the way.
@@ -77,11 +89,9 @@ fn later_pass(rows: &[u64], m: usize, s: Set, doubted: Set) -> Passed
         }
         let v = sets::lowest(left);
         seen = sets::full(v + 1);
-        doubt = sets::without(doubt, v);
-        if degree(rows, kept, v) < m {
-            kept = sets::without(kept, v);
-            doubt = sets::join(doubt, beside(rows, kept, v));
-        }
+        let looked = look(rows, m, kept, sets::without(doubt, v), v);
+        kept = looked.kept;
+        doubt = looked.doubt;
     }
 }
 

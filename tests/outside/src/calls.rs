@@ -1,5 +1,5 @@
 //! The exported calls on slices, with the plain numbers of their outcomes.
-use kadvisk::ffi::{self, Outcome, ReadOutcome};
+use kadvisk::ffi::{self, CoreOutcome, Outcome, ReadOutcome};
 
 pub fn looseness(rows: &[u64], s: u64) -> Outcome {
     unsafe { ffi::kadvisk_looseness(rows.as_ptr(), rows.len(), s) }
@@ -9,7 +9,7 @@ pub fn is_maximal(rows: &[u64], k: usize, s: u64) -> Outcome {
     unsafe { ffi::kadvisk_is_maximal(rows.as_ptr(), rows.len(), k, s) }
 }
 
-pub fn core(rows: &[u64], k: usize, q: usize) -> Outcome {
+pub fn core(rows: &[u64], k: usize, q: usize) -> CoreOutcome {
     unsafe { ffi::kadvisk_core(rows.as_ptr(), rows.len(), k, q) }
 }
 
@@ -52,6 +52,16 @@ pub fn write_sheet(rows: &[u64], k: usize, q: usize, text: &mut [u8]) -> Outcome
 /// The outcome of a success.
 pub fn success(value: usize, found: u64) -> Outcome {
     Outcome { number: 0, value, found }
+}
+
+/// The outcome of a core that is found.
+pub fn cored((core, passes): (u64, usize)) -> CoreOutcome {
+    CoreOutcome { number: 0, value: 0, core, passes }
+}
+
+/// The outcome of a core that is refused: no pass is made.
+pub fn core_refused((number, value): (usize, usize)) -> CoreOutcome {
+    CoreOutcome { number, value, core: 0, passes: 0 }
 }
 
 /// The outcome of a refusal.

@@ -103,6 +103,25 @@ pub fn ring(n: usize) -> Vec<u64> {
     by_pairs(n, |a, b| b == a + 1 || (a == 0 && b == n - 1))
 }
 
+/// A path through the vertices of `order`.
+pub fn path(order: &[usize]) -> Vec<u64> {
+    let mut rows = vec![0; order.len()];
+    order.windows(2).for_each(|step| connect(&mut rows, step[0], step[1]));
+    rows
+}
+
+/// The numbers below `n` from the middle of a path outwards: .., 4, 2, 0, 1, 3, 5, ..
+pub fn outward(n: usize) -> Vec<usize> {
+    (0..n).rev().filter(|v| v % 2 == 0).chain((0..n).filter(|v| v % 2 == 1)).collect()
+}
+
+/// A path through the vertices of `order`, the first three of which are a triangle.
+pub fn lollipop(order: &[usize]) -> Vec<u64> {
+    let mut rows = path(order);
+    connect(&mut rows, order[0], order[2]);
+    rows
+}
+
 /// One vertex, adjacent to all others.
 pub fn star(n: usize) -> Vec<u64> {
     by_pairs(n, |a, _| a == 0)

@@ -68,6 +68,24 @@ pub fn core(rows: &[u64], degree: usize) -> u64 {
     (0..n).filter(|&v| !gone[v]).map(|v| 1u64 << v).sum()
 }
 
+/// What passes leave of all vertices, and how many there are up to the first that takes none. A pass goes through a list of the vertices left, by rising
+/// number, and strikes each that has fewer than `degree` neighbours among those of the list.
+pub fn passes(rows: &[u64], degree: usize) -> (u64, usize) {
+    let mut left: Vec<usize> = (0..rows.len()).collect();
+    for made in 1.. {
+        let before = left.clone();
+        for v in before.iter().copied() {
+            if left.iter().filter(|&&w| adjacent(rows, v, w)).count() < degree {
+                left.retain(|&w| w != v);
+            }
+        }
+        if left == before {
+            return (left.iter().map(|&v| 1u64 << v).sum(), made);
+        }
+    }
+    unreachable!()
+}
+
 /// The union of all sets whose members have `degree` neighbours in them: the core by trying all sets.
 pub fn core_by_all(rows: &[u64], degree: usize) -> u64 {
     let stands = |s: u64| members(s).iter().all(|&v| members(s).iter().filter(|&&w| adjacent(rows, v, w)).count() >= degree);

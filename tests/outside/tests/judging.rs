@@ -1,5 +1,5 @@
-//! How loose a set is, whether it is maximal, the core and the reach, against their definitions.
-use outside::calls::{core, first_bound, is_maximal, largest, looseness, reach, refused, success};
+//! How loose a set is, whether it is maximal, and the reach, against their definitions.
+use outside::calls::{first_bound, is_maximal, largest, looseness, reach, refused, success};
 use outside::cases::{all_graphs, graph, grown_plex, many, subset};
 use outside::instances::{self, Rng};
 use outside::plain;
@@ -131,49 +131,6 @@ fn random_sets_of_up_to_64_vertices() {
 }
 
 #[test]
-fn the_core_of_every_graph_of_up_to_five_vertices() {
-    for n in 1..=5 {
-        for rows in all_graphs(n) {
-            for k in 1..=3 {
-                for q in 2 * k - 1..=n.max(2 * k - 1) + 1 {
-                    assert_eq!(core(&rows, k, q), success(0, plain::core_by_all(&rows, q - k)), "{rows:X?} k={k} q={q}");
-                }
-            }
-        }
-    }
-}
-
-#[test]
-fn the_core_of_random_graphs() {
-    let mut rng = Rng(3);
-    let mut between = 0;
-    for _ in 0..many(20_000) {
-        let (rows, k) = (graph(&mut rng, 1, 64), rng.between(1, 5));
-        let q = rng.between(2 * k - 1, (2 * k + 30).min(64));
-        let want = plain::core(&rows, q - k);
-        between += (want != 0 && want.count_ones() < rows.len() as u32) as usize;
-        assert_eq!(core(&rows, k, q), success(0, want), "{rows:X?} k={k} q={q}");
-    }
-    assert!(between > 100, "only {between} cores are neither empty nor all");
-}
-
-#[test]
-fn the_core_holds_every_listed_plex() {
-    let mut rng = Rng(5);
-    for _ in 0..many(200) {
-        let (rows, k) = (graph(&mut rng, 1, 18), rng.between(1, 3));
-        let q = 2 * k - 1 + rng.below(5);
-        let within = core(&rows, k, q).found;
-        for plex in kadvisk::list_all(&rows, k, q).unwrap() {
-            assert_eq!(plex & !within, 0);
-            for v in plain::members(plex) {
-                assert_eq!(plex & !reach(&rows, v).found, 0);
-            }
-        }
-    }
-}
-
-#[test]
 fn the_reach_of_every_vertex() {
     let mut rng = Rng(7);
     for case in 0..many(2000) {
@@ -187,8 +144,6 @@ fn the_reach_of_every_vertex() {
 #[test]
 fn worked_edges() {
     let ring = [0x12, 0x05, 0x0A, 0x14, 0x09];
-    assert_eq!(core(&ring, 2, 4), success(0, 0x1F));
-    assert_eq!(core(&ring, 2, 5), success(0, 0));
     assert_eq!(reach(&[0x2, 0x5, 0xA, 0x4], 0), success(0, 0x7));
     assert_eq!(is_maximal(&ring, 1, 0), yes_no(false));
     // a member counts itself among what it misses

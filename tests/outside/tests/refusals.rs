@@ -34,10 +34,15 @@ fn set(rng: &mut Rng, n: usize) -> u64 {
 struct Tally([usize; 14]);
 
 impl Tally {
+    /// Counts what is owed, and holds the call to it.
+    fn count(&mut self, owed: Refused, hold: impl FnOnce(Refused)) {
+        self.0[owed.map_or(0, |(number, _)| number)] += 1;
+        hold(owed);
+    }
+
     /// Holds an outcome to the refusal that is owed, or to what is found.
     fn hold(&mut self, outcome: Outcome, owed: Refused, found: impl FnOnce() -> Outcome) {
-        self.0[owed.map_or(0, |(number, _)| number)] += 1;
-        assert_eq!(outcome, owed.map_or_else(found, refused));
+        self.count(owed, |owed| assert_eq!(outcome, owed.map_or_else(found, refused)));
     }
 
     fn all_of(&self, numbers: &[usize]) {
@@ -65,7 +70,10 @@ fn core_and_reach() {
     for _ in 0..many(20_000) {
         let (rows, k) = (table(&mut rng), slack(&mut rng));
         let q = floor(&mut rng, k);
-        cores.hold(core(&rows, k, q), refusals::request(&rows, k, q), || success(0, plain::core(&rows, q - k)));
+        cores.count(refusals::request(&rows, k, q), |owed| match owed {
+            Some(refusal) => assert_eq!(core(&rows, k, q), core_refused(refusal)),
+            None => assert_eq!(core(&rows, k, q), cored(plain::passes(&rows, q - k))),
+        });
         let v = if rng.chance(0.1) { [rows.len(), 64, 65, usize::MAX][rng.below(4)] } else { rng.below(rows.len() + 1) };
         reaches.hold(reach(&rows, v), refusals::reach(&rows, v), || success(0, plain::reach(&rows, v)));
     }

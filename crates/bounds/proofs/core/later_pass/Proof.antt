@@ -7,7 +7,7 @@ use borrow.Author.Needs.{needs}
 use lib.ListN.{length}
 use Rattle.sets.specs.Words.{mask, masks}
 use Rattle.sets.specs.WalkLaws.{empty-holds, empty-fails}
-use Rattle.bounds.specs.DoubtLaws.{LaterPass, later-pass-none, later-pass-vertex, later-pass-stays, later-pass-goes, later-pass-all, later-pass-falls}
+use Rattle.bounds.specs.DoubtLaws.{LaterPass, later-pass-none, later-pass-vertex, later-pass-falls, later-pass-next, later-pass-all}
 use Rattle.bounds.proofs.core.later_pass.Statement.{statement}
 use Rattle.bounds.proofs.core.later_pass.Tie as tie
 
@@ -35,52 +35,31 @@ full-requires c κs = (omega arith, omega (arith, c .lowest .ensures .fits))
 without-requires : tie.Need-without-requires Inv-loop μ-loop
 without-requires c κs = c .before .lowest .ensures .fits
 
-degree-requires : tie.Need-degree-requires Inv-loop μ-loop
-degree-requires c κs =
+look-requires : tie.Need-look-requires Inv-loop μ-loop
+look-requires c κs =
     let found = c .before .before in
     let turn = found .before .before .before in
-    later-pass-vertex (turn .before .loop .inv) (turn .minus .ensures) (found .lowest .ensures)
-
-without-requires-2 : tie.Need-without-requires-2 Inv-loop μ-loop
-without-requires-2 c κs = c .before .before .before .before .lowest .ensures .fits
-
-beside-requires : tie.Need-beside-requires Inv-loop μ-loop
-beside-requires c κs = degree-requires (c .before .before .before) (c .before .before .degree .lifetimes)
+    (later-pass-vertex (turn .before .loop .inv) (turn .minus .ensures) (found .lowest .ensures), found .lowest .ensures .fits)
 
 loop-less : tie.Need-loop-less Inv-loop μ-loop
 loop-less c =
-    let sought = c .before .before .before .before .before .before in
+    let sought = c .before .before .before .before in
     let found = sought .before in
     let turn = found .before .before .before in
     rw (sought .full .ensures) (later-pass-falls (turn .before .loop .inv) (turn .minus .ensures) (found .lowest .ensures))
 
 loop-again : tie.Need-loop-again Inv-loop μ-loop
 loop-again c =
-    let tested = c .before .before .before .before in
-    let sought = tested .before .before in
+    let looked = c .before .before in
+    let sought = looked .before .before in
     let found = sought .before in
     let turn = found .before .before .before in
-    rw (c .join .ensures, c .before .beside .ensures, c .before .before .without2 .ensures, tested .before .without .ensures, sought .full .ensures)
-    (later-pass-goes (turn .before .loop .inv) (turn .minus .ensures) (found .lowest .ensures) (tested .degree .ensures .0) (turn .before .before .before .before .pre .judgeable .valid) (c .before .before .before .if2 .taken))
-
-loop-less-2 : tie.Need-loop-less-2 Inv-loop μ-loop
-loop-less-2 c =
-    let sought = c .before .before .before in
-    let found = sought .before in
-    let turn = found .before .before .before in
-    rw (sought .full .ensures) (later-pass-falls (turn .before .loop .inv) (turn .minus .ensures) (found .lowest .ensures))
-
-loop-again-2 : tie.Need-loop-again-2 Inv-loop μ-loop
-loop-again-2 c =
-    let sought = c .before .before .before in
-    let found = sought .before in
-    let turn = found .before .before .before in
-    rw (c .before .before .without .ensures, sought .full .ensures)
-    (later-pass-stays (turn .before .loop .inv) (turn .minus .ensures) (found .lowest .ensures) (c .before .degree .ensures .0) (c .if2 .left))
+    rw (looked .look .ensures .0, looked .look .ensures .1, looked .before .without .ensures, sought .full .ensures)
+    (later-pass-next (turn .before .loop .inv) (turn .minus .ensures) (found .lowest .ensures) (turn .before .before .before .before .pre .judgeable .valid))
 
 pub later-pass-spec : {M : Type 1} → statement M
 later-pass-spec =
     tie.close
     (tie.spec
     Inv-loop μ-loop (λ c. search needs) loop-holds (λ c. search needs) (λ c. search needs) returns lowest-requires add-full full-requires without-requires
-    degree-requires without-requires-2 beside-requires (λ c. search needs) loop-less loop-again loop-less-2 loop-again-2)
+    look-requires loop-less loop-again)
