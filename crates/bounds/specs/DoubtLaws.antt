@@ -3,33 +3,30 @@
 --
 --   Looked v e d e′ d′             a look at v takes what is sure from the vertices below e outside d to those below e′ outside d′
 --   FirstPass g m s v kept doubt   the first pass has gone by the vertices below v
---   LaterPass g m s seen kept ..   a later pass has gone by the vertices of seen, which are all below some vertex
+--   LaterPass g m s kept left ..   a later pass has come to some vertex: left is still to be looked at, and next in the next pass
 --   Peels g m s kept doubt n       n passes have been made, the last from s to kept
-use Prim.Native.Nat.{ℕ, suc, _+_, _-_, _^_, _≤_, _<_}
-use native.Mathlib.Nat.{le-refl, le-trans, lt-of-le-of-lt, lt-of-not-le, le-of-suc-le-suc, le-antisymm, not-suc-le-zero, two-pow-succ}
-use native.Mathlib.Numerals.{add-one}
+use Prim.Native.Nat.{ℕ, suc, _+_, _*_, _^_, _≤_, _<_}
+use native.Mathlib.Nat.{le-refl, le-trans, lt-of-not-le, le-of-suc-le-suc, le-antisymm, not-suc-le-zero, suc-mul, mul-le-mul-right}
 use native.Mathlib.Omega.{arith}
 use mathlib.Core.Path.{_≡_, refl, sym, ap, subst, _∙_}
-use mathlib.Core.Bool.{Bool, cond}
 use mathlib.Core.List.{List}
-use lib.Bits.{bitAnd, bitOr, and-le-r, or-lt}
-use lib.Pow.{pow-pos, pow-mono}
+use lib.Bits.{bitAnd, bitOr}
 use lib.Count.{ones-ones}
 use lib.ListN.{length}
-use borrow.Author.Tests.{le-leb, lt-leb}
 use Rattle.sets.specs.Set.{bit, In, Sub, size, without, full, minus}
 use Rattle.sets.specs.Words.{Lowest}
 use Rattle.sets.specs.Graph.{row}
-use Rattle.sets.specs.BitLaws.{bit-and, bit-or, bit-minus, bit-pow-same, bit-le, ext}
-use Rattle.sets.specs.PointLaws.{by-bit, in-single, single-out, bit-without, none-out}
-use Rattle.sets.specs.SizeLaws.{size-mono, and-below, minus-below}
-use Rattle.sets.specs.SubsetLaws.{in-below, sub-below, sub-number}
+use Rattle.sets.specs.BitLaws.{bit-and, bit-or, bit-minus, bit-pow-same, bit-le}
+use Rattle.sets.specs.PointLaws.{by-bit, bit-none, in-single, single-out, bit-without, none-out}
+use Rattle.sets.specs.SizeLaws.{size-mono, minus-below}
+use Rattle.sets.specs.SubsetLaws.{in-below, in-of-sub, sub-below, sub-number}
 use Rattle.sets.specs.WordLaws.{bit-full, bit-full-out}
+use Rattle.sets.specs.WalkLaws.{without-less}
 use Rattle.judging.specs.Graph.{degree, Valid}
 use Rattle.judging.specs.Setting.{Sized}
 use Rattle.bounds.specs.Core.{core, look, passTo, pass, passes}
-use Rattle.bounds.specs.PassSetting.{doubts, Sure, Doubtable, Passes}
-use Rattle.bounds.specs.PassLaws.{by-look, look-stays, look-goes, look-none, pass-to-sub, pass-to-next, pass-to-same, pass-sub}
+use Rattle.bounds.specs.PassSetting.{Sure, Doubtable, Passes}
+use Rattle.bounds.specs.PassLaws.{look-stays, look-goes, look-none, pass-to-next, pass-to-same, pass-sub}
 use Rattle.bounds.specs.PassLaws.{passes-last, passes-more, passes-some, passes-most, HoldsDense, holds-dense-none, holds-dense-next, holds-dense-all}
 
 -- a vertex that is not adjacent to v loses nothing with it
@@ -39,38 +36,16 @@ degree-apart g s u v out =
     size-mono (bitAnd s (row g u)) (bitAnd (without s v) (row g u)) (λ w.
     omega (arith, bit-and s (row g u) w, bit-and (without s v) (row g u) w, bit-without s v w, single-out (row g u) v w out))
 
+or-out : (a b u : ℕ) → bit (bitOr a b) u ≡ 0 → (bit a u ≡ 0) × (bit b u ≡ 0)
+or-out a b u o = (omega (arith, o, bit-or a b u), omega (arith, o, bit-or a b u))
+
+out-or : (a b u : ℕ) → bit a u ≡ 0 → bit b u ≡ 0 → bit (bitOr a b) u ≡ 0
+out-or a b u x y = omega (arith, bit-or a b u)
+
 -- ---- a look at v
 
-doubts-stays : (g : List ℕ) (m s d v : ℕ) → m ≤ degree g s v → doubts g m s d v ≡ d
-unfolding doubts
-doubts-stays g m s d v many = ap (λ (b : Bool). cond b d (bitOr d (bitAnd (without s v) (row g v)))) (le-leb m (degree g s v) many)
-
-doubts-goes : (g : List ℕ) (m s d v : ℕ) → degree g s v < m → doubts g m s d v ≡ bitOr d (bitAnd (without s v) (row g v))
-unfolding doubts
-doubts-goes g m s d v few = ap (λ (b : Bool). cond b d (bitOr d (bitAnd (without s v) (row g v)))) (lt-leb m (degree g s v) few)
-
--- as the code looks at v, which is adjacent to n members of s
-module _ (g : List ℕ) (m s d v : ℕ) {n : ℕ} (e : n ≡ degree g s v) where
-  pub looks-stays : m ≤ n → (s ≡ look g m s v) × (d ≡ doubts g m s d v)
-  looks-stays l =
-      let many : m ≤ degree g s v = omega arith in
-      (sym (look-stays g m s v many), sym (doubts-stays g m s d v many))
-
-  pub looks-goes : n < m → {r b c : ℕ} → r ≡ without s v → b ≡ bitAnd r (row g v) → c ≡ bitOr d b → (r ≡ look g m s v) × (c ≡ doubts g m s d v)
-  looks-goes l {r} {b} {c} gone beside joined =
-      let few : degree g s v < m = omega arith in (
-        gone ∙ sym (look-goes g m s v few),
-        joined ∙ ap (bitOr d) (beside ∙ ap (λ (x : ℕ). bitAnd x (row g v)) gone) ∙ sym (doubts-goes g m s d v few),
-      )
-
-by-degree : {P : Type 0} (g : List ℕ) (m s v : ℕ) → (m ≤ degree g s v → P) → (degree g s v < m → P) → P
-by-degree {P} g m s v many few = by-look (λ (x : ℕ). P) g m s v many few
-
-doubts-below : {g : List ℕ} (m s : ℕ) {d v : ℕ} → Valid g → v < length g → d < 2 ^ length g → doubts g m s d v < 2 ^ length g
-doubts-below {g} m s {d} {v} valid l b =
-    by-degree g m s v (λ many. rw (doubts-stays g m s d v many) b) (λ few.
-    rw (doubts-goes g m s d v few)
-    (or-lt (length g) d (bitAnd (without s v) (row g v)) b (lt-of-le-of-lt (and-le-r (without s v) (row g v)) (valid .low v l))))
+other-below : (u v : ℕ) → u < v + 1 → bit (2 ^ v) u ≡ 0 → u < v
+other-below u v l other = lt-of-not-le (λ here. omega (arith, ap (λ (x : ℕ). bit (2 ^ x) u) (le-antisymm here (omega arith)), bit-pow-same u))
 
 abbrev Looked : ℕ → ℕ → ℕ → ℕ → ℕ → Type 0
 Looked v e d e′ d′ = (u : ℕ) → u < e′ → bit (2 ^ v) u ≡ 0 → bit d′ u ≡ 0 → (u < e) × (bit d u ≡ 0)
@@ -101,11 +76,6 @@ module _ {g : List ℕ} {m e kept d : ℕ} (v : ℕ) (h : Sure g m e kept d) (e�
             (degree-apart g kept u v (sym (valid .mutually v u b (omega arith)) ∙ out)));
       }
 
-  sure-next : Valid g → v < length g → e′ ≤ length g → Sure g m e′ (look g m kept v) (doubts g m kept d′ v)
-  sure-next valid b most =
-      by-degree g m kept v (λ many. rw (look-stays g m kept v many, doubts-stays g m kept d′ v many) (sure-stays many)) (λ few.
-      rw (look-goes g m kept v few, doubts-goes g m kept d′ v few) (sure-goes valid b most))
-
 -- ---- the first pass
 
 pub record FirstPass (g : List ℕ) (m s v kept doubt : ℕ) : Type 0 where
@@ -117,105 +87,187 @@ pub first-pass-none : {g : List ℕ} {m s d : ℕ} → FirstPass g m s 0 s d
 unfolding passTo
 first-pass-none = record { done = refl; sure = record { enough = λ u l i o. absurd (not-suc-le-zero l) }; most = omega arith }
 
-pub first-pass-next : {g : List ℕ} {m s v kept doubt : ℕ} → FirstPass g m s v kept doubt → Valid g → v < length g
-    → FirstPass g m s (v + 1) (look g m kept v) (doubts g m kept doubt v)
-first-pass-next {g} {m} {s} {v} {kept} {doubt} p valid b =
-    record {
-      done = pass-to-next g m s v (p .done) refl;
-      sure = sure-next v (p .sure) (v + 1) doubt below valid b (omega arith);
-      most = omega arith;
-    }
-  where
-    below : Looked v v doubt (v + 1) doubt
-    below u l other o = (lt-of-not-le (λ here. omega (arith, ap (λ (x : ℕ). bit (2 ^ x) u) (le-antisymm here (omega arith)), bit-pow-same u)), o)
+module _ {g : List ℕ} {m s v kept doubt d : ℕ} (p : FirstPass g m s v kept doubt) (b : v < length g) (deg : d ≡ degree g kept v) where
+  looked : Looked v v doubt (v + 1) doubt
+  looked u l other o = (other-below u v l other, o)
+
+  pub first-pass-stays : m ≤ d → FirstPass g m s (v + 1) kept doubt
+  first-pass-stays many =
+      let enough : m ≤ degree g kept v = omega arith in
+      record {
+        done = pass-to-next g m s v (p .done) (look-stays g m kept v enough);
+        sure = sure-stays v (p .sure) (v + 1) doubt looked enough;
+        most = omega arith;
+      }
+
+  pub first-pass-goes : Valid g → d < m → FirstPass g m s (v + 1) (without kept v) (bitOr doubt (bitAnd (without kept v) (row g v)))
+  first-pass-goes valid few =
+      record {
+        done = pass-to-next g m s v (p .done) (look-goes g m kept v (omega arith));
+        sure = sure-goes v (p .sure) (v + 1) doubt looked valid b (omega arith);
+        most = omega arith;
+      }
 
 -- what was taken out since it came into doubt is not looked at again
-pub first-pass-all : {g : List ℕ} {m s v kept doubt : ℕ} → FirstPass g m s v kept doubt → length g ≤ v → s < 2 ^ length g
-    → Passes g m s kept (bitAnd kept doubt)
+pub first-pass-all : {g : List ℕ} {m s v kept doubt : ℕ} → FirstPass g m s v kept doubt → length g ≤ v → Passes g m s kept (bitAnd kept doubt)
 unfolding pass
-first-pass-all {g} {m} {s} {v} {kept} {doubt} p l below =
+first-pass-all {g} {m} {s} {v} {kept} {doubt} p l =
     let end : v ≡ length g = omega (arith, p .most) in
     record {
       left = p .done ∙ ap (passTo g m s) end;
-      below = and-below (length g) kept doubt (sub-below (length g) kept s (rw (p .done) (pass-to-sub g m s v)) below);
+      part = λ u. omega (arith, bit-and kept doubt u);
       sure = record { enough = λ u b i o. p .sure .enough u (omega arith) i (omega (arith, i, o, bit-and kept doubt u)) };
     }
 
 -- ---- a later pass
 
-pub record LaterPass (g : List ℕ) (m s seen kept doubt : ℕ) : Type 0 where
+pub record LaterPass (g : List ℕ) (m s kept left next : ℕ) : Type 0 where
   pub cursor : ℕ
-  pub at : seen ≡ full cursor
   pub most : cursor ≤ length g
   pub done : kept ≡ passTo g m s cursor
-  pub below : doubt < 2 ^ length g
-  pub sure : Sure g m (length g) kept doubt
+  pub ahead : (u : ℕ) → u < cursor → bit left u ≡ 0
+  pub behind : (u : ℕ) → cursor ≤ u → bit next u ≡ 0
+  pub part : Sub left kept × Sub next kept
+  pub below : kept < 2 ^ length g
+  pub sure : Sure g m (length g) kept (bitOr left next)
 
-pub later-pass-none : {g : List ℕ} {m s d : ℕ} → Doubtable g m s d → LaterPass g m s 0 s d
+pub later-pass-none : {g : List ℕ} {m s d : ℕ} → Doubtable g m s d → LaterPass g m s s d 0
 unfolding passTo
-later-pass-none p = record { cursor = 0; at = refl; most = omega arith; done = refl; below = p .below; sure = p .sure }
+later-pass-none {g} {m} {s} {d} p =
+    record {
+      cursor = 0;
+      most = omega arith;
+      done = refl;
+      ahead = λ u l. absurd (not-suc-le-zero l);
+      behind = λ u l. bit-none u;
+      part = (p .part, λ u. omega (arith, bit-none u));
+      below = p .judgeable .inside .below;
+      sure = record { enough = λ u l i o. p .sure .enough u l i (omega (arith, o, bit-or d 0 u)) };
+    }
 
-module _ {g : List ℕ} {m s seen kept doubt : ℕ} (p : LaterPass g m s seen kept doubt) where
-  -- none that is not in doubt would go: the pass is as far as the next in doubt
-  skipped : (v : ℕ) → p .cursor ≤ v → v ≤ length g → ((u : ℕ) → u < v → bit (minus doubt seen) u ≡ 0) → kept ≡ passTo g m s v
+module _ {g : List ℕ} {m s kept left next : ℕ} (p : LaterPass g m s kept left next) where
+  -- none that is not in doubt would go: the pass is as far as the next that is
+  skipped : (v : ℕ) → p .cursor ≤ v → v ≤ length g → ((u : ℕ) → u < v → bit left u ≡ 0) → kept ≡ passTo g m s v
   skipped v l b none =
       pass-to-same g m s (p .cursor) v l (p .done) (λ u from to.
-      let out : bit doubt u ≡ 0 =
-      omega (arith, none u to, bit-minus doubt seen u, ap (λ (x : ℕ). bit x u) (p .at), bit-full-out (p .cursor) u from) in
       by-bit kept u
-      (λ i. look-stays g m kept u (p .sure .enough u (omega arith) i out))
+      (λ i. look-stays g m kept u (p .sure .enough u (omega arith) i (omega (arith, none u to, p .behind u from, bit-or left next u))))
       (λ o. look-none g m kept u o))
 
-  -- no one in doubt is left
-  pub later-pass-all : {left : ℕ} → left ≡ minus doubt seen → left ≡ 0 → Passes g m s kept doubt
+  -- none is left
+  pub later-pass-all : left ≡ 0 → Passes g m s kept next
   unfolding pass
-  later-pass-all e z =
+  later-pass-all z =
       record {
-        left = skipped (length g) (p .most) (le-refl (length g)) (λ u l. none-out (sym e ∙ z) u);
-        below = p .below;
-        sure = p .sure;
+        left = skipped (length g) (p .most) (le-refl (length g)) (λ u l. none-out z u);
+        part = p .part .1;
+        sure = record { enough = λ u l i o. p .sure .enough u l i (omega (arith, o, bit-or left next u, none-out z u)) };
       }
 
-  -- v is the next in doubt
-  module _ {left v : ℕ} (e : left ≡ minus doubt seen) (here : Lowest left v) where
-    member : In v doubt
-    member = omega (arith, here .member, ap (λ (x : ℕ). bit x v) e, bit-minus doubt seen v, bit-le doubt v)
+  -- v is looked at
+  module _ {v : ℕ} (here : Lowest left v) where
+    member : In v kept
+    member = in-of-sub left kept v (p .part .0) (here .member)
 
     pub later-pass-vertex : v < length g
-    later-pass-vertex = in-below (length g) doubt v (p .below) member
+    later-pass-vertex = in-below (length g) kept v (p .below) member
 
     after-cursor : p .cursor ≤ v
-    after-cursor =
-        le-of-suc-le-suc (lt-of-not-le (λ l. omega (
-          arith,
-          here .member,
-          ap (λ (x : ℕ). bit x v) e,
-          bit-minus doubt seen v,
-          ap (λ (x : ℕ). bit x v) (p .at),
-          bit-full (p .cursor) v l,
-          bit-le doubt v,
-        )))
+    after-cursor = le-of-suc-le-suc (lt-of-not-le (λ l. omega (arith, here .member, p .ahead v l)))
 
     so-far : kept ≡ passTo g m s v
-    so-far = skipped v after-cursor (omega (arith, later-pass-vertex)) (λ u l. ap (λ (x : ℕ). bit x u) (sym e) ∙ here .least u l)
+    so-far = skipped v after-cursor (omega (arith, later-pass-vertex)) (here .least)
 
-    looked-later : Looked v (length g) doubt (length g) (without doubt v)
-    looked-later u l other o = (l, omega (arith, o, other, bit-without doubt v u))
+    gone-by : (u : ℕ) → u < v + 1 → bit (without left v) u ≡ 0
+    gone-by u l =
+        by-bit (2 ^ v) u
+        (λ same. omega (arith, same, bit-without left v u, bit-le left u))
+        (λ other. omega (arith, bit-without left v u, here .least u (other-below u v l other)))
 
-    pub later-pass-falls : 2 ^ length g - full (v + 1) < 2 ^ length g - seen
-    later-pass-falls =
-        omega (arith, p .at, pow-mono after-cursor, two-pow-succ v, ap (λ (x : ℕ). 2 ^ x) (add-one v), pow-pos v, pow-mono later-pass-vertex)
+    looked-later : Looked v (length g) (bitOr left next) (length g) (bitOr (without left v) next)
+    looked-later u l other o = (l, omega (arith, o, other, bit-or (without left v) next u, bit-or left next u, bit-without left v u))
 
-    pub later-pass-next : Valid g → LaterPass g m s (full (v + 1)) (look g m kept v) (doubts g m kept (without doubt v) v)
-    later-pass-next valid =
-        record {
-          cursor = v + 1;
-          at = refl;
-          most = omega (arith, later-pass-vertex);
-          done = pass-to-next g m s v so-far refl;
-          below = doubts-below m kept valid later-pass-vertex (minus-below (length g) doubt (2 ^ v) (p .below));
-          sure = sure-next v (p .sure) (length g) (without doubt v) looked-later valid later-pass-vertex (le-refl (length g));
-        }
+    module _ {d : ℕ} (deg : d ≡ degree g kept v) where
+      pub later-pass-stays : m ≤ d → LaterPass g m s kept (without left v) next
+      later-pass-stays many =
+          let enough : m ≤ degree g kept v = omega arith in
+          record {
+            cursor = v + 1;
+            most = omega (arith, later-pass-vertex);
+            done = pass-to-next g m s v so-far (look-stays g m kept v enough);
+            ahead = gone-by;
+            behind = λ u l. p .behind u (omega (arith, after-cursor));
+            part = (λ u. omega (arith, p .part .0 u, bit-without left v u), p .part .1);
+            below = p .below;
+            sure = sure-stays v (p .sure) (length g) (bitOr (without left v) next) looked-later enough;
+          }
+
+      -- t are those left that are adjacent to v
+      module _ (few : d < m) (valid : Valid g) {t : ℕ} (e : t ≡ bitAnd (without kept v) (row g v)) where
+        pub later-pass-goes : LaterPass g m s (without kept v) (bitOr (without left v) (minus t (full (v + 1)))) (bitOr next (bitAnd t (full (v + 1))))
+        later-pass-goes =
+            record {
+              cursor = v + 1;
+              most = omega (arith, later-pass-vertex);
+              done = pass-to-next g m s v so-far (look-goes g m kept v (omega arith));
+              ahead = λ u l.
+                  omega (arith, gone-by u l, bit-or (without left v) (minus t seen) u, bit-minus t seen u, bit-full (v + 1) u l, bit-le t u);
+              behind = λ u l.
+                  omega (arith, p .behind u (omega (arith, after-cursor)), bit-or next (bitAnd t seen) u, bit-and t seen u, bit-full-out (v + 1) u l);
+              part = (to-look, for-next);
+              below = minus-below (length g) kept (2 ^ v) (p .below);
+              sure = record { enough = λ u l i o. doubted .enough u l i (same-doubt u o) };
+            }
+          where
+            seen : ℕ
+            seen = full (v + 1)
+
+            within : (u : ℕ) → bit t u ≤ bit (without kept v) u
+            within u = omega (arith, ap (λ (x : ℕ). bit x u) e, bit-and (without kept v) (row g v) u)
+
+            to-look : Sub (bitOr (without left v) (minus t seen)) (without kept v)
+            to-look u =
+                omega (arith, within u, p .part .0 u, bit-or (without left v) (minus t seen) u, bit-minus t seen u, bit-without left v u, bit-without kept v u)
+
+            for-next : Sub (bitOr next (bitAnd t seen)) (without kept v)
+            for-next u =
+                omega (
+                  arith,
+                  within u,
+                  p .part .1 u,
+                  bit-or next (bitAnd t seen) u,
+                  bit-and t seen u,
+                  bit-without kept v u,
+                  single-out next v u (p .behind v after-cursor),
+                  bit-le kept u,
+                )
+
+            doubted : Sure g m (length g) (without kept v) (bitOr (bitOr (without left v) next) (bitAnd (without kept v) (row g v)))
+            doubted = sure-goes v (p .sure) (length g) (bitOr (without left v) next) looked-later valid later-pass-vertex (le-refl (length g))
+
+            same-doubt : (u : ℕ) → bit (bitOr (bitOr (without left v) (minus t seen)) (bitOr next (bitAnd t seen))) u ≡ 0
+                → bit (bitOr (bitOr (without left v) next) (bitAnd (without kept v) (row g v))) u ≡ 0
+            same-doubt u o =
+                let halves = or-out (bitOr (without left v) (minus t seen)) (bitOr next (bitAnd t seen)) u o in
+                let looks = or-out (without left v) (minus t seen) u (halves .0) in
+                let waits = or-out next (bitAnd t seen) u (halves .1) in
+                let lost : bit t u ≡ 0 = omega (arith, looks .1, waits .1, bit-minus t seen u, bit-and t seen u) in
+                out-or (bitOr (without left v) next) (bitAnd (without kept v) (row g v)) u (out-or (without left v) next u (looks .0) (waits .0))
+                (ap (λ (x : ℕ). bit x u) (sym e) ∙ lost)
+
+        pub later-pass-goes-falls : without kept v * 2 ^ length g + bitOr (without left v) (minus t (full (v + 1))) < kept * 2 ^ length g + left
+        later-pass-goes-falls =
+            let n = 2 ^ length g in
+            let less : suc (without kept v) * n ≤ kept * n = mul-le-mul-right n (without-less kept v member) in
+            omega (
+              arith,
+              less,
+              suc-mul (without kept v) n,
+              sub-below (length g) _ (without kept v) (later-pass-goes .part .0) (later-pass-goes .below),
+            )
+
+    pub later-pass-stays-falls : kept * 2 ^ length g + without left v < kept * 2 ^ length g + left
+    later-pass-stays-falls = omega (arith, without-less left v (here .member))
 
 -- ---- pass after pass
 
@@ -236,7 +288,7 @@ module _ {g : List ℕ} {m s kept doubt n : ℕ} (p : Peels g m s kept doubt n) 
   peels-doubtable sized valid =
       record {
         judgeable = record { inside = record { some = sized .some; most = sized .most; below = on .below }; valid = valid };
-        below = p .passed .below;
+        part = p .passed .part;
         sure = p .passed .sure;
       }
 

@@ -1,65 +1,98 @@
--- The vertices of `seen` have been gone by (`LaterPass`): the lowest in doubt beyond them is looked at next, and those before it would stay. At a look v stays or
--- goes, as the definition has it. The pass ends because `seen` grows.
+-- The pass has come to some vertex (`LaterPass`): the lowest of `left` is looked at next, as those before it would stay. At a look v stays or goes, as the
+-- definition has it. The pass ends because a look takes v out of `left`, or out of `kept`.
 use native.Mathlib.Omega.{arith}
-use Prim.Native.Nat.{_-_, _^_, _<_}
-use mathlib.Core.Path.{_∙_, ap}
+use Prim.Native.Nat.{_+_, _*_, _^_}
 use borrow.Author.Needs.{needs}
 use lib.ListN.{length}
 use Rattle.sets.specs.Words.{mask, masks}
-use Rattle.sets.specs.WalkLaws.{empty-holds, empty-fails}
-use Rattle.bounds.specs.DoubtLaws.{LaterPass, later-pass-none, later-pass-vertex, later-pass-falls, later-pass-next, later-pass-all}
+use Rattle.sets.specs.WalkLaws.{walk-goes-on, walk-over}
+use Rattle.bounds.specs.DoubtLaws.{LaterPass, later-pass-none, later-pass-vertex, later-pass-stays, later-pass-goes, later-pass-all}
+use Rattle.bounds.specs.DoubtLaws.{later-pass-stays-falls, later-pass-goes-falls}
 use Rattle.bounds.proofs.core.later_pass.Statement.{statement}
 use Rattle.bounds.proofs.core.later_pass.Tie as tie
 
 abbrev Inv-loop : tie.InvT-loop
-Inv-loop rows m kept₀ doubt₀ seen₀ kept doubt seen = LaterPass (masks rows) m (mask kept₀) (mask seen) (mask kept) (mask doubt)
+Inv-loop rows m kept₀ left₀ next₀ kept left next = LaterPass (masks rows) m (mask kept₀) (mask kept) (mask left) (mask next)
 
 abbrev μ-loop : tie.MeasureT-loop
-μ-loop rows m kept₀ doubt₀ seen₀ kept doubt seen = 2 ^ length (masks rows) - mask seen
+μ-loop rows m kept₀ left₀ next₀ kept left next = mask kept * 2 ^ length (masks rows) + mask left
 
 loop-holds : tie.Need-loop-holds Inv-loop μ-loop
 loop-holds c = rw (c .empty .ensures) (later-pass-none (c .before .before .pre))
 
-returns : tie.Need-returns Inv-loop μ-loop
-returns c = later-pass-all (c .before .before .before .loop .inv) (c .before .before .minus .ensures) (empty-holds (c .before .is-empty .ensures) (c .if1 .taken))
-
 lowest-requires : tie.Need-lowest-requires Inv-loop μ-loop
-lowest-requires c κs = empty-fails (c .before .is-empty .ensures) (c .if1 .left)
+lowest-requires c κs = walk-goes-on (c .before .is-empty .ensures) (c .if1 .taken)
 
-add-full : tie.Need-add-full Inv-loop μ-loop
-add-full c = omega (arith, c .lowest .ensures .fits)
+rest-requires : tie.Need-rest-requires Inv-loop μ-loop
+rest-requires c κs = c .lowest .ensures
 
-full-requires : tie.Need-full-requires Inv-loop μ-loop
-full-requires c κs = (omega arith, omega (arith, c .lowest .ensures .fits))
+degree-requires : tie.Need-degree-requires Inv-loop μ-loop
+degree-requires c κs =
+    let found = c .before in
+    later-pass-vertex (found .before .before .before .loop .inv) (found .lowest .ensures)
 
 without-requires : tie.Need-without-requires Inv-loop μ-loop
-without-requires c κs = c .before .lowest .ensures .fits
+without-requires c κs = c .before .before .before .lowest .ensures .fits
 
-look-requires : tie.Need-look-requires Inv-loop μ-loop
-look-requires c κs =
-    let found = c .before .before in
-    let turn = found .before .before .before in
-    (later-pass-vertex (turn .before .loop .inv) (turn .minus .ensures) (found .lowest .ensures), found .lowest .ensures .fits)
+get-requires : tie.Need-get-requires Inv-loop μ-loop
+get-requires c κs = degree-requires (c .before .before .before) (c .before .before .degree .lifetimes)
+
+add-full : tie.Need-add-full Inv-loop μ-loop
+add-full c = omega (arith, c .before .before .before .before .before .before .lowest .ensures .fits)
+
+full-requires : tie.Need-full-requires Inv-loop μ-loop
+full-requires c κs = (omega arith, omega (arith, c .before .before .before .before .before .before .lowest .ensures .fits))
 
 loop-less : tie.Need-loop-less Inv-loop μ-loop
 loop-less c =
-    let sought = c .before .before .before .before in
-    let found = sought .before in
+    let parted = c .before .before .before in
+    let lost = parted .before .before in
+    let gone = lost .before .before in
+    let tested = gone .before .before in
+    let found = tested .before .before in
     let turn = found .before .before .before in
-    rw (sought .full .ensures) (later-pass-falls (turn .before .loop .inv) (turn .minus .ensures) (found .lowest .ensures))
+    rw (c .before .before .join .ensures, parted .minus .ensures, parted .before .full .ensures, gone .without .ensures, tested .before .rest .ensures)
+    (later-pass-goes-falls (turn .loop .inv) (found .lowest .ensures) (tested .degree .ensures .0) (gone .before .if2 .taken)
+    (turn .before .before .before .pre .judgeable .valid) (rw (lost .meet .ensures, lost .before .get .ensures, gone .without .ensures)))
 
 loop-again : tie.Need-loop-again Inv-loop μ-loop
 loop-again c =
-    let looked = c .before .before in
-    let sought = looked .before .before in
-    let found = sought .before in
+    let parted = c .before .before .before in
+    let lost = parted .before .before in
+    let gone = lost .before .before in
+    let tested = gone .before .before in
+    let found = tested .before .before in
     let turn = found .before .before .before in
-    rw (looked .look .ensures .0, looked .look .ensures .1, looked .before .without .ensures, sought .full .ensures)
-    (later-pass-next (turn .before .loop .inv) (turn .minus .ensures) (found .lowest .ensures) (turn .before .before .before .before .pre .judgeable .valid))
+    rw (
+      c .join2 .ensures,
+      c .before .meet2 .ensures,
+      c .before .before .join .ensures,
+      parted .minus .ensures,
+      parted .before .full .ensures,
+      gone .without .ensures,
+      tested .before .rest .ensures,
+    )
+    (later-pass-goes (turn .loop .inv) (found .lowest .ensures) (tested .degree .ensures .0) (gone .before .if2 .taken)
+    (turn .before .before .before .pre .judgeable .valid) (rw (lost .meet .ensures, lost .before .get .ensures, gone .without .ensures)))
+
+loop-less-2 : tie.Need-loop-less-2 Inv-loop μ-loop
+loop-less-2 c =
+    let found = c .before .before .before in
+    rw (c .before .before .rest .ensures) (later-pass-stays-falls (found .before .before .before .loop .inv) (found .lowest .ensures))
+
+loop-again-2 : tie.Need-loop-again-2 Inv-loop μ-loop
+loop-again-2 c =
+    let found = c .before .before .before in
+    rw (c .before .before .rest .ensures)
+    (later-pass-stays (found .before .before .before .loop .inv) (found .lowest .ensures) (c .before .degree .ensures .0) (c .if2 .left))
+
+returns : tie.Need-returns Inv-loop μ-loop
+returns c = later-pass-all (c .before .before .loop .inv) (walk-over (c .before .is-empty .ensures) (c .if1 .left))
 
 pub later-pass-spec : {M : Type 1} → statement M
 later-pass-spec =
     tie.close
     (tie.spec
-    Inv-loop μ-loop (λ c. search needs) loop-holds (λ c. search needs) (λ c. search needs) returns lowest-requires add-full full-requires without-requires
-    look-requires loop-less loop-again)
+    Inv-loop μ-loop (λ c. search needs) loop-holds (λ c. search needs) lowest-requires rest-requires degree-requires without-requires get-requires
+    (λ c. search needs) add-full full-requires (λ c. search needs) (λ c. search needs) (λ c. search needs) (λ c. search needs) loop-less loop-again
+    loop-less-2 loop-again-2 returns)
