@@ -32,8 +32,8 @@ get-requires c κs = degree-requires (c .before .before .before) (c .before .bef
 
 add-v : tie.Need-add-v Inv-loop μ-loop
 add-v c =
-    let test = c .before .before in
-    omega (arith, degree-requires test (c .before .degree .lifetimes), test .before .before .before .before .before .pre .inside .most)
+    let tested = c .before in
+    omega (arith, degree-requires (tested .before) (tested .degree .lifetimes), tested .before .before .before .before .before .before .pre .inside .most)
 
 loop-less : tie.Need-loop-less Inv-loop μ-loop
 loop-less c = omega (arith, degree-requires (c .before .before) (c .before .degree .lifetimes))
