@@ -118,8 +118,8 @@ fn line(row: &Row) -> [f64; 2] {
 
 pub fn all() {
     println!("\n## The core alone\n");
-    println!("Graphs of 64 vertices, slack 1: the neighbours asked for, the vertices left and the passes in the mean, the time of a call in ns, and the time of a");
-    println!("plain peeling by a queue as a multiple of it, with the same checks of the table and without.\n");
+    println!("Graphs of 64 vertices, slack 1: the neighbours asked for, in the mean the vertices left and the passes, the time of a call in ns, and the time");
+    println!("of a plain peeling by a queue as a multiple of it, with the same checks of the table and without.\n");
     println!("| graph | neighbours | left | passes | core, ns | queue, checked | queue alone |\n|---|---|---|---|---|---|---|");
     let ratios: Vec<[f64; 2]> = rows().iter().map(line).collect();
     for (at, name) in ["with the checks", "alone"].iter().enumerate() {

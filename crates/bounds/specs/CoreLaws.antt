@@ -1,23 +1,17 @@
 -- Laws of the core: it is dense, it holds every dense set, and nothing else is both; large plexes lie in it.
 use Prim.Native.Nat.{ℕ, _-_, _^_, _≤_, _<_}
-use native.Mathlib.Nat.{le-trans, lt-of-le-of-lt}
+use native.Mathlib.Nat.{le-trans}
 use native.Mathlib.Omega.{arith}
-use mathlib.Core.Path.{_≡_, ap}
+use mathlib.Core.Path.{_≡_}
 use mathlib.Core.Bool.{Bool, _&&_}
 use mathlib.Core.List.{List}
-use lib.Pow.{pow-pos}
 use lib.Dec.{T, leb, leb→le, le→leb}
 use lib.ListN.{length}
 use Rattle.sets.specs.Ranges.{range, any}
-use Rattle.sets.specs.Words.{Lowest}
-use Rattle.sets.specs.Set.{bit, has, Sub, size, without, full}
+use Rattle.sets.specs.Set.{has, Sub, size}
 use Rattle.sets.specs.RangeLaws.{mem-range, range-mem, any-elim, any-intro, and-left, and-right, both}
-use Rattle.sets.specs.BitLaws.{bit-le, bit-minus}
-use Rattle.sets.specs.PointLaws.{single-out, by-bit}
-use Rattle.sets.specs.WordLaws.{sub-full}
-use Rattle.sets.specs.SubsetLaws.{sub-number, sub-refl, sub-trans, sub-antisym, sub-of-in, in-below, has-in, in-has, minus-sub, without-same}
+use Rattle.sets.specs.SubsetLaws.{sub-antisym, sub-of-in, in-below, has-in, in-has}
 use Rattle.sets.specs.MemberLaws.{set-of-in, set-of-holds, set-of-below, all-members, members-all}
-use Rattle.sets.specs.WalkLaws.{Walked, walk-none, walk-more, walk-map, walk-all}
 use Rattle.judging.specs.Graph.{degree}
 use Rattle.judging.specs.Plex.{Plex}
 use Rattle.judging.specs.GraphLaws.{degree-missing, degree-mono}

@@ -12,8 +12,9 @@ use mathlib.Core.Path.{_≡_, refl, sym, ap, subst, _∙_}
 use mathlib.Core.List.{List}
 use lib.Bits.{bitAnd, bitOr}
 use lib.Count.{ones-ones}
+use lib.Pow.{pow-pos}
 use lib.ListN.{length}
-use Rattle.sets.specs.Set.{bit, In, Sub, size, without, full, minus}
+use Rattle.sets.specs.Set.{bit, In, Sub, without, full, minus}
 use Rattle.sets.specs.Words.{Lowest}
 use Rattle.sets.specs.Graph.{row}
 use Rattle.sets.specs.BitLaws.{bit-and, bit-or, bit-minus, bit-pow-same, bit-le}
@@ -23,7 +24,7 @@ use Rattle.sets.specs.SubsetLaws.{in-below, in-of-sub, sub-below, sub-number}
 use Rattle.sets.specs.WordLaws.{bit-full, bit-full-out}
 use Rattle.sets.specs.WalkLaws.{without-less}
 use Rattle.judging.specs.Graph.{degree, Valid}
-use Rattle.judging.specs.Setting.{Sized}
+use Rattle.judging.specs.Setting.{Sized, Judgeable}
 use Rattle.bounds.specs.Core.{core, look, passTo, pass, passes}
 use Rattle.bounds.specs.PassSetting.{Sure, Doubtable, Passes}
 use Rattle.bounds.specs.PassLaws.{look-stays, look-goes, look-none, pass-to-next, pass-to-same, pass-sub}
@@ -271,6 +272,14 @@ module _ {g : List ℕ} {m s kept left next : ℕ} (p : LaterPass g m s kept lef
 
 -- ---- pass after pass
 
+-- the first pass is from all vertices
+pub all-judgeable : {g : List ℕ} {s : ℕ} → s ≡ full (length g) → Sized g → Valid g → Judgeable g s
+all-judgeable {g} e sized valid =
+    record {
+      inside = record { some = sized .some; most = sized .most; below = omega (arith, e, pow-pos (length g)) };
+      valid = valid;
+    }
+
 pub record Peels (g : List ℕ) (m s kept doubt n : ℕ) : Type 0 where
   pub holds : HoldsDense g m s
   pub passed : Passes g m s kept doubt
@@ -296,7 +305,7 @@ module _ {g : List ℕ} {m s kept doubt n : ℕ} (p : Peels g m s kept doubt n) 
   pub peels-fits : n ≤ length g + 1
   peels-fits =
       let all = full (length g) in
-      omega (arith, p .counted, passes-some g m s, passes-most g m all (holds-dense-none refl), ones-ones (length g))
+      omega (arith, p .counted, passes-some g m s, passes-most g m all, ones-ones (length g))
 
   -- the last pass took some
   module _ (ne : kept ≡ s → ⊥) where

@@ -80,7 +80,8 @@ module _ (g : List ℕ) (k q : ℕ) {v : ℕ} {p : Peeling} (e : coreReply g k q
   pub core-passes-most : p .passes ≤ 1 + (length g - size (p .core))
   core-passes-most =
       let all = full (length g) in
-      omega (arith, core-passes, ap size core-answer, passes-most g (q - k) all (holds-dense-none refl), ones-ones (length g), core-some-pass)
+      let left = passes-leave g (q - k) all (holds-dense-none refl) in
+      omega (arith, core-passes, ap size core-answer, passes-most g (q - k) all, ap size left, ones-ones (length g), core-some-pass)
 
 -- ---- the reach
 

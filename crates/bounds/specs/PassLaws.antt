@@ -3,7 +3,7 @@
 --
 --   HoldsDense g m s   s holds every dense set of the graph
 use Prim.Native.Nat.{ℕ, zero, suc, _+_, _^_, _≤_, _<_}
-use native.Mathlib.Nat.{le-refl, lt-of-le-of-lt, lt-of-not-le, not-suc-le-zero, eq-or-lt-of-le}
+use native.Mathlib.Nat.{le-refl, lt-of-le-of-lt, lt-of-not-le, eq-or-lt-of-le}
 use native.Mathlib.Numerals.{add-one}
 use native.Mathlib.Omega.{arith}
 use mathlib.Core.Path.{_≡_, refl, sym, ap, subst, _∙_}
@@ -24,7 +24,7 @@ use Rattle.sets.specs.WordLaws.{sub-full}
 use Rattle.judging.specs.Graph.{degree}
 use Rattle.judging.specs.GraphLaws.{degree-mono}
 use Rattle.bounds.specs.Core.{Dense, core, look, passTo, pass, leave, passesWithin, passes}
-use Rattle.bounds.specs.CoreLaws.{core-below, core-complete, core-dense, core-unique}
+use Rattle.bounds.specs.CoreLaws.{core-dense, core-unique}
 
 -- ---- a look at one vertex: it stays, or it goes
 
@@ -224,6 +224,14 @@ module _ (g : List ℕ) (m : ℕ) where
       after s ne h zero l = ne
       after s ne h (suc i) l = h i (omega (arith, passes-more s ne))
 
+  -- the passes are at most one more than the vertices that they take out
+  pub passes-most : (s : ℕ) → passes g m s + size (leave (passes g m s) g m s) ≤ suc (size s)
+  unfolding leave
+  passes-most =
+      by-passes (λ s. passes g m s + size (leave (passes g m s) g m s) ≤ suc (size s)) g m
+      (λ s e. rw (passes-last s e) (omega (arith, ap size e)))
+      (λ s ne more. rw (passes-more s ne) (omega (arith, more, pass-falls g m s ne)))
+
 -- ---- from all vertices on: the core
 
 pub record HoldsDense (g : List ℕ) (m s : ℕ) : Type 0 where
@@ -255,13 +263,6 @@ passes-leave g m =
     by-passes (λ s. HoldsDense g m s → leave (passes g m s) g m s ≡ core g m) g m
     (λ s e h. rw (passes-last g m s e) (e ∙ holds-dense-all h e))
     (λ s ne more h. rw (passes-more g m s ne) (more (holds-dense-next h)))
-
--- the passes are at most one more than the vertices that they take out
-pub passes-most : (g : List ℕ) (m s : ℕ) → HoldsDense g m s → passes g m s + size (core g m) ≤ suc (size s)
-passes-most g m =
-    by-passes (λ s. HoldsDense g m s → passes g m s + size (core g m) ≤ suc (size s)) g m
-    (λ s e h. omega (arith, passes-last g m s e, ap size (holds-dense-all h e)))
-    (λ s ne more h. omega (arith, passes-more g m s ne, more (holds-dense-next h), pass-falls g m s ne))
 
 -- so there is one pass exactly where every vertex is in the core
 pub one-pass-core : (g : List ℕ) (m : ℕ) → passes g m (full (length g)) ≡ 1 → core g m ≡ full (length g)

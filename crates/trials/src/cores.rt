@@ -67,8 +67,8 @@ fn few(start: Tally) -> Tally {
     tally::with(cases, is(graphs::STAR, 64, 1, 3, 0, 3))
 }
 
-// A path by its numbers goes in one pass, and one numbered outwards takes a pass for each vertex of a side. With a triangle at one end a path that falls goes in
-// one pass too, and one that rises takes a pass for each vertex: as many as there can be.
+// A path by its numbers goes in one pass, and one numbered outwards takes a pass for each vertex of a side. With a triangle at one end a path that falls
+// goes in one pass too, and one that rises takes a pass for each vertex: as many as there can be.
 fn paths(start: Tally) -> Tally {
     let mut cases = tally::with(start, is(graphs::PATH, 64, 1, 3, 0, 2));
     cases = tally::with(cases, is(graphs::OUTWARD, 64, 1, 3, 0, 33));

@@ -4,12 +4,9 @@ use native.Mathlib.Omega.{arith}
 use mathlib.Core.Path.{sym, ap, _∙_}
 use borrow.Author.Needs.{needs}
 use borrow.Author.Tests.{eqb-true, eqb-false, not-true, not-false}
-use denote.Ref.{now}
-use lib.Pow.{pow-pos}
-use lib.ListN.{length}
 use Rattle.sets.specs.Set.{full}
 use Rattle.sets.specs.Words.{mask, masks}
-use Rattle.bounds.specs.DoubtLaws.{Peels, peels-none, peels-doubtable, peels-fits, peels-falls, peels-more, peels-all}
+use Rattle.bounds.specs.DoubtLaws.{all-judgeable, Peels, peels-none, peels-doubtable, peels-fits, peels-falls, peels-more, peels-all}
 use Rattle.bounds.proofs.core.peel.Statement.{statement}
 use Rattle.bounds.proofs.core.peel.Tie as tie
 
@@ -27,10 +24,7 @@ full-requires c κs =
 first-pass-requires : tie.Need-first-pass-requires Inv-loop μ-loop
 first-pass-requires c κs =
     let pre = c .before .before .before .pre in
-    record {
-      inside = record { some = pre .0 .some; most = pre .0 .most; below = omega (arith, c .full .ensures, ap full (c .before .count .ensures), pow-pos (length (masks (now (c .before .before .before .args .rows))))) };
-      valid = pre .1;
-    }
+    all-judgeable (c .full .ensures ∙ ap full (c .before .count .ensures)) (pre .0) (pre .1)
 
 loop-holds : tie.Need-loop-holds Inv-loop μ-loop
 loop-holds c =
