@@ -4,15 +4,12 @@
 --   Looked v e d e′ d′             a look at v takes what is sure from the vertices below e outside d to those below e′ outside d′
 --   FirstPass g m s v kept doubt   the first pass has gone by the vertices below v
 --   LaterPass g m s kept left ..   a later pass has come to some vertex: left is still to be looked at, and next in the next pass
---   Peels g m s kept doubt n       n passes have been made, the last from s to kept
 use Prim.Native.Nat.{ℕ, suc, _+_, _*_, _^_, _≤_, _<_}
 use native.Mathlib.Nat.{le-refl, le-trans, lt-of-not-le, le-of-suc-le-suc, le-antisymm, not-suc-le-zero, suc-mul, mul-le-mul-right}
 use native.Mathlib.Omega.{arith}
-use mathlib.Core.Path.{_≡_, refl, sym, ap, subst, _∙_}
+use mathlib.Core.Path.{_≡_, refl, sym, ap, _∙_}
 use mathlib.Core.List.{List}
 use lib.Bits.{bitAnd, bitOr}
-use lib.Count.{ones-ones}
-use lib.Pow.{pow-pos}
 use lib.ListN.{length}
 use Rattle.sets.specs.Set.{bit, In, Sub, without, full, minus}
 use Rattle.sets.specs.Words.{Lowest}
@@ -20,15 +17,13 @@ use Rattle.sets.specs.Graph.{row}
 use Rattle.sets.specs.BitLaws.{bit-and, bit-or, bit-minus, bit-pow-same, bit-le}
 use Rattle.sets.specs.PointLaws.{by-bit, bit-none, in-single, single-out, bit-without, none-out}
 use Rattle.sets.specs.SizeLaws.{size-mono, minus-below}
-use Rattle.sets.specs.SubsetLaws.{in-below, in-of-sub, sub-below, sub-number}
+use Rattle.sets.specs.SubsetLaws.{in-below, in-of-sub, sub-below}
 use Rattle.sets.specs.WordLaws.{bit-full, bit-full-out}
 use Rattle.sets.specs.WalkLaws.{without-less}
 use Rattle.judging.specs.Graph.{degree, Valid}
-use Rattle.judging.specs.Setting.{Sized, Judgeable}
-use Rattle.bounds.specs.Core.{core, look, passTo, pass, passes}
+use Rattle.bounds.specs.Core.{look, passTo, pass}
 use Rattle.bounds.specs.PassSetting.{Sure, Doubtable, Passes}
-use Rattle.bounds.specs.PassLaws.{look-stays, look-goes, look-none, pass-to-next, pass-to-same, pass-sub}
-use Rattle.bounds.specs.PassLaws.{passes-last, passes-more, passes-some, passes-most, HoldsDense, holds-dense-none, holds-dense-next, holds-dense-all}
+use Rattle.bounds.specs.PassLaws.{look-stays, look-goes, look-none, pass-to-next, pass-to-same}
 
 -- a vertex that is not adjacent to v loses nothing with it
 degree-apart : (g : List ℕ) (s u v : ℕ) → bit (row g u) v ≡ 0 → degree g s u ≤ degree g (without s v) u
@@ -269,62 +264,3 @@ module _ {g : List ℕ} {m s kept left next : ℕ} (p : LaterPass g m s kept lef
 
     pub later-pass-stays-falls : kept * 2 ^ length g + without left v < kept * 2 ^ length g + left
     later-pass-stays-falls = omega (arith, without-less left v (here .member))
-
--- ---- pass after pass
-
--- the first pass is from all vertices
-pub all-judgeable : {g : List ℕ} {s : ℕ} → s ≡ full (length g) → Sized g → Valid g → Judgeable g s
-all-judgeable {g} e sized valid =
-    record {
-      inside = record { some = sized .some; most = sized .most; below = omega (arith, e, pow-pos (length g)) };
-      valid = valid;
-    }
-
-pub record Peels (g : List ℕ) (m s kept doubt n : ℕ) : Type 0 where
-  pub holds : HoldsDense g m s
-  pub passed : Passes g m s kept doubt
-  pub counted : n + passes g m s ≡ 1 + passes g m (full (length g))
-
-pub peels-none : {g : List ℕ} {m s kept doubt : ℕ} → s ≡ full (length g) → Passes g m s kept doubt → Peels g m s kept doubt 1
-peels-none {g} {m} e p = record { holds = holds-dense-none e; passed = p; counted = ap (λ (x : ℕ). 1 + passes g m x) e }
-
-module _ {g : List ℕ} {m s kept doubt n : ℕ} (p : Peels g m s kept doubt n) where
-  on : HoldsDense g m kept
-  on = subst (HoldsDense g m) (sym (p .passed .left)) (holds-dense-next (p .holds))
-
-  -- what the next pass asks for
-  pub peels-doubtable : Sized g → Valid g → Doubtable g m kept doubt
-  peels-doubtable sized valid =
-      record {
-        judgeable = record { inside = record { some = sized .some; most = sized .most; below = on .below }; valid = valid };
-        part = p .passed .part;
-        sure = p .passed .sure;
-      }
-
-  -- the number of passes fits: it is at most one more than the number of vertices
-  pub peels-fits : n ≤ length g + 1
-  peels-fits =
-      let all = full (length g) in
-      omega (arith, p .counted, passes-some g m s, passes-most g m all, ones-ones (length g))
-
-  -- the last pass took some
-  module _ (ne : kept ≡ s → ⊥) where
-    took : pass g m s ≡ s → ⊥
-    took e = ne (p .passed .left ∙ e)
-
-    pub peels-falls : kept < s
-    peels-falls = omega (arith, sub-number kept s (rw (p .passed .left) (pass-sub g m s)))
-
-    pub peels-more : {r d : ℕ} → Passes g m kept r d → Peels g m kept r d (n + 1)
-    peels-more q =
-        record {
-          holds = on;
-          passed = q;
-          counted = omega (arith, p .counted, passes-more g m s took, ap (passes g m) (p .passed .left));
-        }
-
-  -- it took none
-  pub peels-all : kept ≡ s → (s ≡ core g m) × (n ≡ passes g m (full (length g)))
-  peels-all e =
-      let still : pass g m s ≡ s = sym (p .passed .left) ∙ e in
-      (holds-dense-all (p .holds) still, omega (arith, p .counted, passes-last g m s still))

@@ -10,6 +10,7 @@ pub mod BoundSetting
 pub mod CoreLaws
 pub mod PassLaws
 pub mod DoubtLaws
+pub mod PeelLaws
 pub mod PairLaws
 pub mod ReachLaws
 pub mod CallLaws

@@ -1,6 +1,6 @@
 -- What an accepted answer of this crate's calls means: which sets lie in a core or a reach, and which plexes a bound is not below. A call that succeeds
 -- passed its checks, so that the laws of what it answers hold of its input.
-use Prim.Native.Nat.{ℕ, _+_, _*_, _-_, _^_, _≤_, _<_}
+use Prim.Native.Nat.{ℕ, suc, _+_, _*_, _-_, _^_, _≤_, _<_}
 use native.Mathlib.Omega.{arith}
 use mathlib.Core.Path.{_≡_, refl, sym, ap, subst, _∙_}
 use mathlib.Core.List.{List, [], _∷_}
@@ -15,14 +15,14 @@ use Rattle.judging.specs.Request.{request}
 use Rattle.judging.specs.Refusal.{answered, firstOf, vertexOutCause}
 use Rattle.judging.specs.Calls.{graphCheck, requestCheck}
 use Rattle.judging.specs.RefusalLaws.{answered-passed, answered-value, answered-found, passed-front, graph-checked}
-use Rattle.bounds.specs.Core.{Dense, core, leave, passes, Peeling, peeling}
+use Rattle.bounds.specs.Core.{Dense, core, pass, leave, passes, Peeling, peeling}
 use Rattle.bounds.specs.Reach.{reach}
 use Rattle.bounds.specs.Bound.{firstBound, secondBound, largest}
 use Rattle.bounds.specs.Calls.{coreReply, reachCheck, reachReply}
 use Rattle.bounds.specs.BoundCalls.{boundCheck, firstBoundReply, secondBoundReply}
 use Rattle.bounds.specs.BoundSetting.{Boundable}
 use Rattle.bounds.specs.CoreLaws.{core-below, core-complete, core-dense, plex-core}
-use Rattle.bounds.specs.PassLaws.{holds-dense-none, passes-leave, passes-some, passes-most, one-pass-core, core-one-pass}
+use Rattle.bounds.specs.PassLaws.{holds-dense-none, passes-leave, passes-some, passes-most, one-pass-core, core-one-pass, last-takes-none, others-take-some}
 use Rattle.bounds.specs.ReachLaws.{plex-reach}
 use Rattle.bounds.specs.BoundLaws.{second-first}
 use Rattle.bounds.specs.BoundSound.{second-sound, second-largest}
@@ -75,6 +75,14 @@ module _ (g : List ℕ) (k q : ℕ) {v : ℕ} {p : Peeling} (e : coreReply g k q
 
   pub core-whole-one-pass : p .core ≡ full (length g) → p .passes ≡ 1
   core-whole-one-pass whole = core-passes ∙ core-one-pass g (q - k) (sym core-answer ∙ whole)
+
+  -- the last takes none, and each before it takes some
+  pub core-last-pass : (i : ℕ) → p .passes ≡ suc i → pass g (q - k) (leave i g (q - k) (full (length g))) ≡ leave i g (q - k) (full (length g))
+  core-last-pass i e = last-takes-none g (q - k) (full (length g)) i (sym core-passes ∙ e)
+
+  pub core-other-passes : (i : ℕ) → suc i < p .passes
+      → pass g (q - k) (leave i g (q - k) (full (length g))) ≡ leave i g (q - k) (full (length g)) → ⊥
+  core-other-passes i l = others-take-some g (q - k) (full (length g)) i (rw (← core-passes) l)
 
   -- the passes are at most one more than the vertices taken out
   pub core-passes-most : p .passes ≤ 1 + (length g - size (p .core))

@@ -28,7 +28,7 @@ use Rattle.bounds.specs.CoreLaws.{core-dense, core-unique}
 
 -- ---- a look at one vertex: it stays, or it goes
 
-pub by-look : (P : ℕ → Type 0) (g : List ℕ) (m s v : ℕ) → (m ≤ degree g s v → P s) → (degree g s v < m → P (without s v)) → P (look g m s v)
+by-look : (P : ℕ → Type 0) (g : List ℕ) (m s v : ℕ) → (m ≤ degree g s v → P s) → (degree g s v < m → P (without s v)) → P (look g m s v)
 unfolding look
 by-look P g m s v stays goes = go (leb m (degree g s v)) refl
   where
@@ -53,7 +53,7 @@ look-sub g m s v = by-look (λ (x : ℕ). Sub x s) g m s v (λ h. sub-refl s) (�
 -- ---- one pass
 
 module _ (g : List ℕ) (m s : ℕ) where
-  pub pass-to-sub : (v : ℕ) → Sub (passTo g m s v) s
+  pass-to-sub : (v : ℕ) → Sub (passTo g m s v) s
   unfolding passTo
   pass-to-sub zero = sub-refl s
   pass-to-sub (suc v) = sub-trans _ (passTo g m s v) s (look-sub g m (passTo g m s v) v) (pass-to-sub v)
@@ -143,7 +143,7 @@ module _ (P : ℕ → Type 0) (g : List ℕ) (m : ℕ) (none : (s : ℕ) → pas
   by-passes-within zero s l = none s (no-member-still g m s l)
   by-passes-within (suc n) s l = by-pass P g m s (none s) (λ ne. more s ne (by-passes-within n (pass g m s) (omega (arith, pass-falls g m s ne))))
 
-  pub by-passes : (s : ℕ) → P s
+  by-passes : (s : ℕ) → P s
   by-passes s = by-passes-within (size s) s (le-refl (size s))
 
 module _ (g : List ℕ) (m : ℕ) where

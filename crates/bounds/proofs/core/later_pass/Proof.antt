@@ -43,37 +43,47 @@ add-full c = omega (arith, c .before .before .before .before .before .before .lo
 full-requires : tie.Need-full-requires Inv-loop μ-loop
 full-requires c κs = (omega arith, omega (arith, c .before .before .before .before .before .before .lowest .ensures .fits))
 
+-- ---- v goes: the places on the way
+
+abbrev parted : tie.After-join2 Inv-loop μ-loop → tie.After-minus Inv-loop μ-loop
+parted c = c .before .before .before
+
+abbrev lost : tie.After-join2 Inv-loop μ-loop → tie.After-meet Inv-loop μ-loop
+lost c = parted c .before .before
+
+abbrev gone : tie.After-join2 Inv-loop μ-loop → tie.After-without Inv-loop μ-loop
+gone c = lost c .before .before
+
+abbrev tested : tie.After-join2 Inv-loop μ-loop → tie.After-degree Inv-loop μ-loop
+tested c = gone c .before .before
+
+abbrev found : tie.After-join2 Inv-loop μ-loop → tie.After-lowest Inv-loop μ-loop
+found c = tested c .before .before
+
+abbrev turn : tie.After-join2 Inv-loop μ-loop → tie.At-loop Inv-loop μ-loop
+turn c = found c .before .before .before
+
 loop-less : tie.Need-loop-less Inv-loop μ-loop
 loop-less c =
-    let parted = c .before .before .before in
-    let lost = parted .before .before in
-    let gone = lost .before .before in
-    let tested = gone .before .before in
-    let found = tested .before .before in
-    let turn = found .before .before .before in
-    rw (c .before .before .join .ensures, parted .minus .ensures, parted .before .full .ensures, gone .without .ensures, tested .before .rest .ensures)
-    (later-pass-goes-falls (turn .loop .inv) (found .lowest .ensures) (tested .degree .ensures .0) (gone .before .if2 .taken)
-    (turn .before .before .before .pre .judgeable .valid) (rw (lost .meet .ensures, lost .before .get .ensures, gone .without .ensures)))
+    rw (c .before .before .join .ensures, parted c .minus .ensures, parted c .before .full .ensures, gone c .without .ensures, tested c .before .rest .ensures)
+    (later-pass-goes-falls (turn c .loop .inv) (found c .lowest .ensures) (tested c .degree .ensures .0) (gone c .before .if2 .taken)
+    (turn c .before .before .before .pre .judgeable .valid) (rw (lost c .meet .ensures, lost c .before .get .ensures, gone c .without .ensures)))
 
 loop-again : tie.Need-loop-again Inv-loop μ-loop
 loop-again c =
-    let parted = c .before .before .before in
-    let lost = parted .before .before in
-    let gone = lost .before .before in
-    let tested = gone .before .before in
-    let found = tested .before .before in
-    let turn = found .before .before .before in
     rw (
       c .join2 .ensures,
       c .before .meet2 .ensures,
       c .before .before .join .ensures,
-      parted .minus .ensures,
-      parted .before .full .ensures,
-      gone .without .ensures,
-      tested .before .rest .ensures,
+      parted c .minus .ensures,
+      parted c .before .full .ensures,
+      gone c .without .ensures,
+      tested c .before .rest .ensures,
     )
-    (later-pass-goes (turn .loop .inv) (found .lowest .ensures) (tested .degree .ensures .0) (gone .before .if2 .taken)
-    (turn .before .before .before .pre .judgeable .valid) (rw (lost .meet .ensures, lost .before .get .ensures, gone .without .ensures)))
+    (later-pass-goes (turn c .loop .inv) (found c .lowest .ensures) (tested c .degree .ensures .0) (gone c .before .if2 .taken)
+    (turn c .before .before .before .pre .judgeable .valid) (rw (lost c .meet .ensures, lost c .before .get .ensures, gone c .without .ensures)))
+
+-- ---- v stays
 
 loop-less-2 : tie.Need-loop-less-2 Inv-loop μ-loop
 loop-less-2 c =

@@ -6,7 +6,7 @@ use borrow.Author.Needs.{needs}
 use borrow.Author.Tests.{eqb-true, eqb-false, not-true, not-false}
 use Rattle.sets.specs.Set.{full}
 use Rattle.sets.specs.Words.{mask, masks}
-use Rattle.bounds.specs.DoubtLaws.{all-judgeable, Peels, peels-none, peels-doubtable, peels-fits, peels-falls, peels-more, peels-all}
+use Rattle.bounds.specs.PeelLaws.{all-judgeable, Peels, peels-none, peels-doubtable, peels-fits, peels-falls, peels-more, peels-all}
 use Rattle.bounds.proofs.core.peel.Statement.{statement}
 use Rattle.bounds.proofs.core.peel.Tie as tie
 
