@@ -1,5 +1,5 @@
-//! The core alone: the call, with its checks of the table, against a plain peeling by a queue, with the same checks and without. A row is several
-//! graphs of one kind, taken one after the other, so that no run sees the same graph twice in a row.
+//! The core alone: the call, with its checks of the table, against a plain peeling by a queue, with the same checks and without. A row of random graphs
+//! has several of one kind, taken one after the other, so that no call sees the same graph twice running.
 use crate::turns;
 use outside::instances;
 
