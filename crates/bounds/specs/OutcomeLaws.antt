@@ -22,7 +22,8 @@ use Rattle.bounds.specs.Calls.{coreReply, reachCheck, reachReply}
 use Rattle.bounds.specs.BoundCalls.{boundCheck, firstBoundReply, secondBoundReply}
 use Rattle.bounds.specs.BoundSetting.{Boundable}
 use Rattle.bounds.specs.CoreLaws.{core-below, core-complete, core-dense, plex-core}
-use Rattle.bounds.specs.PassLaws.{holds-dense-none, passes-leave, passes-some, passes-most, one-pass-core, core-one-pass, last-takes-none, others-take-some}
+use Rattle.bounds.specs.PassLaws.{holds-dense-none, passes-leave, passes-some, passes-most, one-pass-core, core-one-pass}
+use Rattle.bounds.specs.PassLaws.{last-takes-none, others-take-some}
 use Rattle.bounds.specs.ReachLaws.{plex-reach}
 use Rattle.bounds.specs.BoundLaws.{second-first}
 use Rattle.bounds.specs.BoundSound.{second-sound, second-largest}
