@@ -7,14 +7,14 @@
 use Prim.Native.Nat.{ℕ, suc, _+_, _*_, _^_, _≤_, _<_}
 use native.Mathlib.Nat.{le-refl, le-trans, lt-of-not-le, le-of-suc-le-suc, le-antisymm, not-suc-le-zero, suc-mul, mul-le-mul-right}
 use native.Mathlib.Omega.{arith}
-use mathlib.Core.Path.{_≡_, refl, sym, ap, _∙_}
+use mathlib.Core.Path.{_≡_, refl, sym, ap, subst, _∙_}
 use mathlib.Core.List.{List}
 use lib.Bits.{bitAnd, bitOr}
 use lib.ListN.{length}
 use Rattle.sets.specs.Set.{bit, In, Sub, without, full, minus}
 use Rattle.sets.specs.Words.{Lowest}
 use Rattle.sets.specs.Graph.{row}
-use Rattle.sets.specs.BitLaws.{bit-and, bit-or, bit-minus, bit-pow-same, bit-le}
+use Rattle.sets.specs.BitLaws.{ext, bit-and, bit-or, bit-minus, bit-pow-same, bit-le}
 use Rattle.sets.specs.PointLaws.{by-bit, bit-none, in-single, single-out, bit-without, none-out}
 use Rattle.sets.specs.SizeLaws.{size-mono, minus-below}
 use Rattle.sets.specs.SubsetLaws.{in-below, in-of-sub, sub-below}
@@ -32,11 +32,19 @@ degree-apart g s u v out =
     size-mono (bitAnd s (row g u)) (bitAnd (without s v) (row g u)) (λ w.
     omega (arith, bit-and s (row g u) w, bit-and (without s v) (row g u) w, bit-without s v w, single-out (row g u) v w out))
 
-or-out : (a b u : ℕ) → bit (bitOr a b) u ≡ 0 → (bit a u ≡ 0) × (bit b u ≡ 0)
-or-out a b u o = (omega (arith, o, bit-or a b u), omega (arith, o, bit-or a b u))
+-- t in two parts, those in f and the others, each joined to a set of its own
+split-or : (a b t f : ℕ) → bitOr (bitOr a (minus t f)) (bitOr b (bitAnd t f)) ≡ bitOr (bitOr a b) t
+split-or a b t f = exchanged (minus t f) (bitAnd t f) ∙ ap (bitOr (bitOr a b)) whole
+  where
+    exchanged : (x y : ℕ) → bitOr (bitOr a x) (bitOr b y) ≡ bitOr (bitOr a b) (bitOr x y)
+    exchanged x y =
+        ext (bitOr (bitOr a x) (bitOr b y)) (bitOr (bitOr a b) (bitOr x y)) (λ u.
+        omega (arith, bit-or (bitOr a x) (bitOr b y) u, bit-or a x u, bit-or b y u, bit-or (bitOr a b) (bitOr x y) u, bit-or a b u, bit-or x y u))
 
-out-or : (a b u : ℕ) → bit a u ≡ 0 → bit b u ≡ 0 → bit (bitOr a b) u ≡ 0
-out-or a b u x y = omega (arith, bit-or a b u)
+    whole : bitOr (minus t f) (bitAnd t f) ≡ t
+    whole =
+        ext (bitOr (minus t f) (bitAnd t f)) t (λ u.
+        omega (arith, bit-or (minus t f) (bitAnd t f) u, bit-minus t f u, bit-and t f u, bit-le t u, bit-le f u))
 
 -- ---- a look at v
 
@@ -212,7 +220,7 @@ module _ {g : List ℕ} {m s kept left next : ℕ} (p : LaterPass g m s kept lef
                   omega (arith, p .behind u (omega (arith, after-cursor)), bit-or next (bitAnd t seen) u, bit-and t seen u, bit-full-out (v + 1) u l);
               part = (to-look, for-next);
               below = minus-below (length g) kept (2 ^ v) (p .below);
-              sure = record { enough = λ u l i o. doubted .enough u l i (same-doubt u o) };
+              sure = subst (Sure g m (length g) (without kept v)) (sym (split-or (without left v) next t seen ∙ ap (bitOr (bitOr (without left v) next)) e)) doubted;
             }
           where
             seen : ℕ
@@ -240,16 +248,6 @@ module _ {g : List ℕ} {m s kept left next : ℕ} (p : LaterPass g m s kept lef
 
             doubted : Sure g m (length g) (without kept v) (bitOr (bitOr (without left v) next) (bitAnd (without kept v) (row g v)))
             doubted = sure-goes v (p .sure) (length g) (bitOr (without left v) next) looked-later valid later-pass-vertex (le-refl (length g))
-
-            same-doubt : (u : ℕ) → bit (bitOr (bitOr (without left v) (minus t seen)) (bitOr next (bitAnd t seen))) u ≡ 0
-                → bit (bitOr (bitOr (without left v) next) (bitAnd (without kept v) (row g v))) u ≡ 0
-            same-doubt u o =
-                let halves = or-out (bitOr (without left v) (minus t seen)) (bitOr next (bitAnd t seen)) u o in
-                let looks = or-out (without left v) (minus t seen) u (halves .0) in
-                let waits = or-out next (bitAnd t seen) u (halves .1) in
-                let lost : bit t u ≡ 0 = omega (arith, looks .1, waits .1, bit-minus t seen u, bit-and t seen u) in
-                out-or (bitOr (without left v) next) (bitAnd (without kept v) (row g v)) u (out-or (without left v) next u (looks .0) (waits .0))
-                (ap (λ (x : ℕ). bit x u) (sym e) ∙ lost)
 
         pub later-pass-goes-falls : without kept v * 2 ^ length g + bitOr (without left v) (minus t (full (v + 1))) < kept * 2 ^ length g + left
         later-pass-goes-falls =

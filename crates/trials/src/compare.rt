@@ -24,9 +24,9 @@ const MOST_ASKED: usize = 10;
 // The most vertices where all sets are tried after each change.
 const MOST_CHANGED: usize = 14;
 
-const MOST_SLACK: usize = 32;
+pub const MOST_SLACK: usize = 32;
 
-const MOST_FLOOR: usize = 64;
+pub const MOST_FLOOR: usize = 64;
 
 // More than a graph of 16 vertices has maximal k-plexes.
 const MASKS: usize = 16384;

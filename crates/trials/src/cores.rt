@@ -1,5 +1,7 @@
 // Edges of the call for the core, with the passes that it takes, and its answers beside passes that look at every vertex, straight from the definition.
 ghost use Prim.Native.Nat.{_≤_};
+use crate::compare::MOST_FLOOR;
+use crate::compare::MOST_SLACK;
 use crate::graphs;
 use crate::graphs::EMPTY;
 use crate::sheet;
@@ -9,10 +11,6 @@ use crate::words;
 use bounds::CoreFound;
 use judging::Request;
 use sets::Set;
-
-const MOST_SLACK: usize = 32;
-
-const MOST_FLOOR: usize = 64;
 
 // Each pass but the last takes a vertex.
 const MOST_PASSES: usize = sets::WIDTH + 1;
