@@ -220,7 +220,7 @@ module _ {g : List ℕ} {m s kept left next : ℕ} (p : LaterPass g m s kept lef
                   omega (arith, p .behind u (omega (arith, after-cursor)), bit-or next (bitAnd t seen) u, bit-and t seen u, bit-full-out (v + 1) u l);
               part = (to-look, for-next);
               below = minus-below (length g) kept (2 ^ v) (p .below);
-              sure = subst (Sure g m (length g) (without kept v)) (sym (split-or (without left v) next t seen ∙ ap (bitOr (bitOr (without left v) next)) e)) doubted;
+              sure = subst (Sure g m (length g) (without kept v)) (sym in-doubt) doubted;
             }
           where
             seen : ℕ
@@ -245,6 +245,10 @@ module _ {g : List ℕ} {m s kept left next : ℕ} (p : LaterPass g m s kept lef
                   single-out next v u (p .behind v after-cursor),
                   bit-le kept u,
                 )
+
+            in-doubt : bitOr (bitOr (without left v) (minus t seen)) (bitOr next (bitAnd t seen))
+                ≡ bitOr (bitOr (without left v) next) (bitAnd (without kept v) (row g v))
+            in-doubt = split-or (without left v) next t seen ∙ ap (bitOr (bitOr (without left v) next)) e
 
             doubted : Sure g m (length g) (without kept v) (bitOr (bitOr (without left v) next) (bitAnd (without kept v) (row g v)))
             doubted = sure-goes v (p .sure) (length g) (bitOr (without left v) next) looked-later valid later-pass-vertex (le-refl (length g))
