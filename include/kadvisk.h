@@ -3,13 +3,13 @@
  * A graph is n rows of 64 bits, n from 1 to 64: bit b of rows[a], of value 2^b, is set where a and b are adjacent. No vertex is adjacent to itself,
  * and adjacency is mutual. A set of vertices is one 64-bit number in the same way, its mask. In a k-plex each member is adjacent to at least
  * |S| - k members, so a member counts itself among the k that it may miss; the empty set is one. A maximal k-plex is one that no other k-plex of
- * the graph contains. The slack k is 1 to 32, and the floor q, the least size that is listed, is 2k - 1 to 64.
+ * the graph contains. The slack k is 1 to 5, and the floor q, the least size that is listed, is 2k - 1 to 64.
  *
  * Every call answers every input: what it cannot answer it refuses, with a number and a value. The first cause in the order that the call gives is told.
  *
  *    number  cause                                                      value
  *         1  n is not 1 to 64                                           0
- *         2  the slack is not 1 to 32                                   0
+ *         2  the slack is not 1 to 5                                    0
  *         3  the floor is below 2k - 1 or above 64                      0
  *         4  a row has its own bit, or a bit of n or above              the lowest such row
  *         5  a row a has b, but row b lacks a                           the lowest such a

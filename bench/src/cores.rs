@@ -50,7 +50,7 @@ fn queue(rows: &[u64], least: u32) -> u64 {
 #[inline(never)]
 fn accepted(rows: &[u64], slack: usize, floor: usize) -> bool {
     let n = rows.len();
-    if !(1..=64).contains(&n) || !(1..=32).contains(&slack) || !(2 * slack - 1..=64).contains(&floor) {
+    if !(1..=64).contains(&n) || !(1..=5).contains(&slack) || !(2 * slack - 1..=64).contains(&floor) {
         return false;
     }
     if rows.iter().enumerate().any(|(a, row)| row >> a & 1 == 1 || row & !(u64::MAX >> (64 - n)) != 0) {

@@ -101,7 +101,7 @@ pub fn all() {
     let mut cases: Vec<(f64, f64, String)> = vec![];
     let mut left = 0;
     for graph in 0..graphs().len() {
-        for k in 1..=6 {
+        for k in 1..=5 {
             let Some(said) = apart(&["--wide".into(), graph.to_string(), k.to_string()], Duration::from_secs(5)) else {
                 left += 1;
                 continue;

@@ -22,7 +22,7 @@ fn main() -> Result<(), kadvisk::Refusal> {
     if let Err(refusal) = book.change(0, 2, true) {
         println!("R{:02} {:016X}: {refusal}", refusal.number(), refusal.value());
     }
-    if let Err(refusal) = kadvisk::list(&ring, 33, 64, &mut []) {
+    if let Err(refusal) = kadvisk::list(&ring, 6, 11, &mut []) {
         println!("R{:02} {:016X}: {refusal}", refusal.number(), refusal.value());
     }
     Ok(())

@@ -2,7 +2,7 @@
 //!
 //! A graph is a slice of n rows, n from 1 to 64: bit b of `rows[a]` is set where a and b are adjacent. No vertex is adjacent to itself, and
 //! adjacency is mutual. A set of vertices is a `u64` in the same way, its mask. In a k-plex each member is adjacent to all members but at
-//! most k, itself counted. The slack k is 1 to 32, and the floor q, the least size that is listed, is 2k - 1 to 64.
+//! most k, itself counted. The slack k is 1 to 5, and the floor q, the least size that is listed, is 2k - 1 to 64.
 //!
 //! No call panics or has a condition that a caller must meet: what cannot be answered is refused, with a [`Refusal`]. The library below these
 //! functions is proved; the proof says for every input what is answered and what every buffer then holds.
@@ -27,7 +27,7 @@ use std::fmt;
 pub enum Refusal {
     /// 1: the number of rows, or n in a sheet, is not 1 to 64.
     Vertices,
-    /// 2: the slack is not 1 to 32.
+    /// 2: the slack is not 1 to 5.
     Slack,
     /// 3: the floor is below 2k - 1 or above 64.
     Floor,
@@ -107,7 +107,7 @@ impl fmt::Display for Refusal {
     fn fmt(&self, f: &mut fmt::Formatter) -> fmt::Result {
         match self {
             Refusal::Vertices => write!(f, "the number of vertices is not 1 to 64"),
-            Refusal::Slack => write!(f, "the slack is not 1 to 32"),
+            Refusal::Slack => write!(f, "the slack is not 1 to 5"),
             Refusal::Floor => write!(f, "the floor is below 2k - 1 or above 64"),
             Refusal::Row(a) => write!(f, "row {a} has its own bit, or a bit of n or above"),
             Refusal::OneWay(a) => write!(f, "row {a} has a vertex whose row lacks {a}"),

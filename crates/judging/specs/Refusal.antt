@@ -45,13 +45,13 @@ unfoldable pub firstOf : {A : Type 0} → List Cause → Reply A → Reply A
 firstOf [] r = r
 firstOf (c ∷ cs) r = cond (c .holds) (refused (c .number) (c .value)) (firstOf cs r)
 
--- ---- what is accepted: n is 1 to 64, k is 1 to 32, q is 2k - 1 to 64
+-- ---- what is accepted: n is 1 to 64, k is 1 to 5, q is 2k - 1 to 64
 
 abbrev pub mostVertices : ℕ
 mostVertices = 64
 
 abbrev pub mostSlack : ℕ
-mostSlack = 32
+mostSlack = 5
 
 unfoldable pub outside : ℕ → ℕ → ℕ → Bool
 outside lo hi n = ltb n lo || ltb hi n

@@ -17,7 +17,7 @@ use sets::Set;
 // The most vertices, and the most slack.
 pub const MOST_VERTICES: usize = 64;
 
-pub const MOST_SLACK: usize = 32;
+pub const MOST_SLACK: usize = 5;
 
 // Is n one of lo to hi?
 fn is_between(lo: usize, hi: usize, n: usize) -> bool

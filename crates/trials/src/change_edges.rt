@@ -146,7 +146,7 @@ fn none_listed(start: Tally) -> Tally {
         &none,
         &none,
     );
-    sized(cases, EMPTY, 64, ask(32, 63), joined(62, 63), &none, &none)
+    sized(cases, EMPTY, 64, ask(5, 9), joined(62, 63), &none, &none)
 }
 
 // The masks become those of 64 vertices that leave out one of the lowest, in rising order.
@@ -174,28 +174,20 @@ fn two_of_64(start: Tally) -> Tally {
     sized(cases, EMPTY, 64, ask(1, 2), joined(62, 63), &pair, &none)
 }
 
-// 64 vertices at the limit of slack, and beyond it with 33 sets.
+// 64 vertices at the limit of slack, and beyond it with six sets.
 fn at_limit(start: Tally, without: &[u64]) -> Tally {
     let none = [0u64; 0];
     let all = [u64::MAX];
     let complete = graphs::COMPLETE;
     let lacking = graphs::LACKING;
-    let mut cases = sized(start, complete, 64, ask(32, 63), parted(0, 1), &all, &all);
-    cases = sized(cases, complete, 64, ask(32, 64), parted(62, 63), &all, &all);
-    cases = sized(
-        cases,
-        lacking,
-        64,
-        ask(32, 63),
-        parted(0, 32),
-        without,
-        &all,
-    );
-    sized(cases, lacking, 64, ask(32, 64), parted(32, 0), &none, &all)
+    let mut cases = sized(start, complete, 64, ask(5, 9), parted(0, 1), &all, &all);
+    cases = sized(cases, complete, 64, ask(5, 64), parted(62, 63), &all, &all);
+    cases = sized(cases, lacking, 64, ask(5, 9), parted(0, 5), without, &all);
+    sized(cases, lacking, 64, ask(5, 64), parted(5, 0), &none, &all)
 }
 
-fn slack_of_32(cases: Tally) -> Tally {
-    let mut without = [0u64; 33];
+fn slack_of_5(cases: Tally) -> Tally {
+    let mut without = [0u64; 6];
     all_but_one(&mut without);
     at_limit(cases, &without)
 }
@@ -232,7 +224,7 @@ fn opened() -> bool {
 
 pub fn found() -> Tally {
     let cases = tally::with(tally::none(), opened());
-    slack_of_32(two_of_64(none_listed(small(cases))))
+    slack_of_5(two_of_64(none_listed(small(cases))))
 }
 
 // The masks with one vertex of each part of two, in rising order: the lower one, or that of a digit more. Behind them comes the mask `last`.

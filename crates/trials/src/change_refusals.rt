@@ -67,13 +67,13 @@ fn refused_requests(start: Tally) -> Tally {
     cases = tally::with(cases, wrong(65, ask(0, 65), 1, 0));
     cases = tally::with(cases, wrong(65, ask(1, 1), 1, 0));
     cases = tally::with(cases, wrong(64, ask(0, 65), 2, 0));
-    cases = tally::with(cases, wrong(64, ask(33, 64), 2, 0));
+    cases = tally::with(cases, wrong(64, ask(6, 64), 2, 0));
     cases = tally::with(cases, faulty(3, NOWHERE, 1, ask(0, 3), loops, 2, 0));
-    cases = tally::with(cases, faulty(3, NOWHERE, 1, ask(33, 65), loops, 2, 0));
+    cases = tally::with(cases, faulty(3, NOWHERE, 1, ask(6, 65), loops, 2, 0));
     cases = tally::with(cases, wrong(64, ask(1, 65), 3, 0));
     cases = tally::with(cases, faulty(3, NOWHERE, 1, ask(1, 0), loops, 3, 0));
     cases = tally::with(cases, faulty(3, NOWHERE, 1, ask(2, 2), loops, 3, 0));
-    tally::with(cases, faulty(3, NOWHERE, 1, ask(32, 62), loops, 3, 0))
+    tally::with(cases, faulty(3, NOWHERE, 1, ask(5, 8), loops, 3, 0))
 }
 
 // 4 and 5, each with the next cause and the later ones too.

@@ -1,5 +1,6 @@
 // The call that changes a book: a case of it, and its answers beside those of trying all sets.
 ghost use Prim.Native.Nat.{_≤_};
+ghost use Rattle.judging.specs.Refusal.{mostSlack};
 use crate::all_sets;
 use crate::graphs;
 use crate::lists;
@@ -9,6 +10,7 @@ use crate::tally::Tally;
 use crate::words;
 use crate::words::GARBAGE;
 use judging::Request;
+use judging::check::MOST_SLACK;
 
 // Two vertices, and whether they are adjacent afterwards.
 pub struct Change {
@@ -29,9 +31,6 @@ pub const MASK_WORDS: usize = MASKS * sets::WORDS;
 const EXTRA_SLOTS: usize = 3;
 
 pub const SLOT_WORDS: usize = (MASKS + EXTRA_SLOTS) * sets::WORDS;
-
-// The slacks beside which all sets are tried.
-const MOST_SLACK: usize = 4;
 
 // How many changes there are of each request.
 const CHANGES: usize = 3;
@@ -311,7 +310,7 @@ fn floors(
     masks: &mut [u64],
     slots: &mut [u64],
 ) -> Tally
-    requires { ⌜ (1 ≤ k) × (k ≤ 32) ⌝ }
+    requires { ⌜ (1 ≤ k) × (k ≤ mostSlack) ⌝ }
 {
     let least = changes(cases, rows, ask(k, 2 * k - 1), variant, masks, slots);
     changes(least, rows, ask(k, 2 * k), variant, masks, slots)

@@ -1,5 +1,6 @@
 // Lists of the search beside those of trying all sets; and the graphs for which a call is compared so.
 ghost use Prim.Native.Nat.{_≤_};
+ghost use Rattle.judging.specs.Refusal.{mostSlack};
 use crate::all_sets;
 use crate::changes;
 use crate::cores;
@@ -14,6 +15,7 @@ use crate::words;
 use crate::words::GARBAGE;
 use judging::Refusal;
 use judging::Request;
+use judging::check::MOST_SLACK;
 use search::ListFound;
 
 const MOST_VERTICES: usize = 16;
@@ -23,8 +25,6 @@ const MOST_ASKED: usize = 10;
 
 // The most vertices where all sets are tried after each change.
 const MOST_CHANGED: usize = 14;
-
-pub const MOST_SLACK: usize = 32;
 
 pub const MOST_FLOOR: usize = 64;
 
@@ -101,7 +101,7 @@ fn floor(
 
 // One slack: every floor that is allowed beside it. The masks are those of the least.
 fn floors(start: Tally, rows: &[u64], k: usize, masks: &mut [u64], slots: &mut [u64]) -> Tally
-    requires { ⌜ (1 ≤ k) × (k ≤ 32) ⌝ }
+    requires { ⌜ (1 ≤ k) × (k ≤ mostSlack) ⌝ }
 {
     let mut cases = start;
     let mut q = 2 * k - 1;

@@ -1,7 +1,7 @@
 // Edges of the call for the core, with the passes that it takes, and its answers beside passes that look at every vertex, straight from the definition.
 ghost use Prim.Native.Nat.{_≤_};
+ghost use Rattle.judging.specs.Refusal.{mostSlack};
 use crate::compare::MOST_FLOOR;
-use crate::compare::MOST_SLACK;
 use crate::graphs;
 use crate::graphs::EMPTY;
 use crate::sheet;
@@ -10,6 +10,7 @@ use crate::tally::Tally;
 use crate::words;
 use bounds::CoreFound;
 use judging::Request;
+use judging::check::MOST_SLACK;
 use sets::Set;
 
 // Each pass but the last takes a vertex.
@@ -48,7 +49,7 @@ fn small(start: Tally) -> Tally {
     let mut cases = tally::with(start, is(EMPTY, 1, 1, 1, 1, 1));
     cases = tally::with(cases, is(EMPTY, 1, 1, 2, 0, 2));
     cases = tally::with(cases, is(EMPTY, 1, 1, 64, 0, 2));
-    cases = tally::with(cases, is(EMPTY, 1, 32, 63, 0, 2));
+    cases = tally::with(cases, is(EMPTY, 1, 5, 9, 0, 2));
     cases = tally::with(cases, is(EMPTY, 64, 1, 1, u64::MAX, 1));
     tally::with(cases, is(EMPTY, 64, 1, 2, 0, 2))
 }
@@ -74,7 +75,7 @@ fn paths(start: Tally) -> Tally {
     cases = tally::with(cases, is(graphs::FALLING, 64, 1, 3, HIGHEST_3, 2));
     cases = tally::with(cases, is(graphs::RISING, 64, 1, 3, 7, 62));
     cases = tally::with(cases, is(graphs::RISING, 64, 2, 4, 7, 62));
-    cases = tally::with(cases, is(graphs::RISING, 64, 32, 63, 0, 2));
+    cases = tally::with(cases, is(graphs::RISING, 64, 5, 9, 0, 2));
     cases = tally::with(cases, is(graphs::RISING, 4, 1, 3, 7, 2));
     tally::with(cases, is(graphs::RISING, 3, 1, 3, 7, 1))
 }
@@ -149,7 +150,7 @@ fn with_floor(cases: Tally, rows: &[u64], k: usize, q: usize) -> Tally
 
 // One slack: every floor that is allowed beside it.
 fn slack(start: Tally, rows: &[u64], k: usize) -> Tally
-    requires { ⌜ (1 ≤ k) × (k ≤ 32) ⌝ }
+    requires { ⌜ (1 ≤ k) × (k ≤ mostSlack) ⌝ }
 {
     let mut cases = start;
     let mut q = 2 * k - 1;

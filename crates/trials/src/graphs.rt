@@ -21,7 +21,7 @@ pub const UNION: usize = 6;
 // Twelve parts of two, and all adjacent that are in different parts; the other vertices are isolated.
 pub const COCKTAIL: usize = 7;
 
-// Complete, but vertex 0 is not adjacent to the next 31: so all are a 32-plex, and no more if it lacks one more.
+// Complete, but vertex 0 is not adjacent to the next four: so all are a 5-plex, and no more if it lacks one more.
 pub const LACKING: usize = 8;
 
 // A path numbered from its middle: .., 4, 2, 0, 1, 3, 5, ..
@@ -72,7 +72,7 @@ fn adjacent(family: usize, variant: usize, n: usize, a: usize, b: usize, x: u64)
         STAR => a == 0,
         MULTIPARTITE => apart % (variant % 4 + 2) != 0,
         COCKTAIL => a / 2 != b / 2 && b < 24,
-        LACKING => a != 0 || 31 < b,
+        LACKING => a != 0 || 4 < b,
         OUTWARD => apart == 2 || b == 1,
         RISING => apart == 1 || b == 2,
         FALLING => apart == 1 || (apart == 2 && n - 1 == b),

@@ -11,20 +11,15 @@ use crate::words;
 use crate::words::GARBAGE;
 use judging::Refusal;
 use judging::Request;
+use judging::check::MOST_SLACK;
 use largest::LargestFound;
 use sets::Set;
 
-// The slacks beside which all sets are tried.
-const MOST_SLACK: usize = 4;
-
-// A floor that is allowed beside each of them, for the sheet of a graph.
+// A floor that is allowed beside each slack, for the sheet of a graph.
 const FLOOR: usize = 64;
 
-// The lowest 32 vertices.
-const LOWEST_32: u64 = 4294967295;
-
-// The lowest 31 vertices and the last of 64.
-const LOWEST_31_AND_LAST: u64 = 9223372039002259455;
+// The lowest four vertices and the last of 64.
+const LOWEST_4_AND_LAST: u64 = 15 | (1 << 63);
 
 // Is the answer a set of this size and this mask, number 0; or else this refusal with this value?
 fn gives(found: LargestFound, number: usize, value: usize, mask: u64) -> bool {
@@ -85,7 +80,7 @@ fn three(start: Tally) -> Tally {
     cases = tally::with(cases, finds(EMPTY, 3, 2, 4, 2, 5));
     cases = tally::with(cases, finds(EMPTY, 3, 2, 6, 2, 6));
     cases = tally::with(cases, finds(EMPTY, 3, 3, 0, 3, 7));
-    cases = tally::with(cases, finds(EMPTY, 3, 32, 0, 3, 7));
+    cases = tally::with(cases, finds(EMPTY, 3, 5, 0, 3, 7));
     cases = tally::with(cases, finds(EMPTY, 3, 1, 0, 1, 1));
     cases = tally::with(cases, finds(EMPTY, 3, 1, 4, 1, 4));
     cases = tally::with(cases, declines(EMPTY, 3, 1, 3));
@@ -106,14 +101,14 @@ fn ring(start: Tally) -> Tally {
 // Graphs of 1, 5 and 64 vertices, all of them forced; and one or 64 without an edge.
 fn ends(start: Tally) -> Tally {
     let mut cases = tally::with(start, whole(1, 1, 1));
-    cases = tally::with(cases, whole(1, 32, 1));
+    cases = tally::with(cases, whole(1, 5, 1));
     cases = tally::with(cases, whole(5, 1, 31));
-    cases = tally::with(cases, whole(5, 32, 31));
+    cases = tally::with(cases, whole(5, 5, 31));
     cases = tally::with(cases, whole(64, 1, u64::MAX));
-    cases = tally::with(cases, whole(64, 32, u64::MAX));
-    cases = tally::with(cases, finds(EMPTY, 1, 32, 0, 1, 1));
-    cases = tally::with(cases, finds(EMPTY, 64, 32, 0, 32, LOWEST_32));
-    tally::with(cases, finds(EMPTY, 64, 32, 1 << 63, 32, LOWEST_31_AND_LAST))
+    cases = tally::with(cases, whole(64, 5, u64::MAX));
+    cases = tally::with(cases, finds(EMPTY, 1, 5, 0, 1, 1));
+    cases = tally::with(cases, finds(EMPTY, 64, 5, 0, 5, 31));
+    tally::with(cases, finds(EMPTY, 64, 5, 1 << 63, 5, LOWEST_4_AND_LAST))
 }
 
 pub fn found() -> Tally {
@@ -152,17 +147,17 @@ fn sound(k: usize, forced: u64, number: usize) -> bool {
 // Each with the later causes too: 1, 2, 4, 5, 7, 11. The vertices 0, 2 and 5 of a ring of five reach n, and 0 and 2 are not adjacent.
 pub fn refused() -> Tally {
     let mut cases = tally::with(tally::none(), wrong(0, 0, 1));
-    cases = tally::with(cases, wrong(65, 33, 1));
+    cases = tally::with(cases, wrong(65, 6, 1));
     cases = tally::with(cases, wrong(64, 0, 2));
     cases = tally::with(cases, faulty(3, NOWHERE, 1, 0, 37, 2, 0));
-    cases = tally::with(cases, faulty(3, NOWHERE, 1, 33, 37, 2, 0));
+    cases = tally::with(cases, faulty(3, NOWHERE, 1, 6, 37, 2, 0));
     cases = tally::with(cases, faulty(3, NOWHERE, 1, 1, 37, 4, 3));
     cases = tally::with(cases, faulty(4, 2, 0, 1, 37, 4, 2));
     cases = tally::with(cases, faulty(1, 2, 0, 1, 37, 4, 1));
     cases = tally::with(cases, faulty(NOWHERE, NOWHERE, 4, 1, 37, 5, 4));
     cases = tally::with(cases, faulty(NOWHERE, NOWHERE, 1, 1, 37, 5, 1));
     cases = tally::with(cases, sound(1, 37, 7));
-    cases = tally::with(cases, sound(32, 32, 7));
+    cases = tally::with(cases, sound(5, 32, 7));
     cases = tally::with(cases, sound(1, u64::MAX, 7));
     cases = tally::with(cases, sound(1, 5, 11));
     tally::with(cases, sound(2, 31, 11))

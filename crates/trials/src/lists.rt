@@ -109,12 +109,15 @@ fn all_of_64(k: usize, q: usize) -> bool {
 }
 
 pub fn ranges() -> Tally {
-    let mut cases = tally::with(tally::none(), sound(32, 63, 0));
-    cases = tally::with(cases, sound(32, 62, 3));
-    cases = tally::with(cases, sound(33, 63, 2));
-    cases = tally::with(cases, sound(33, 64, 2));
+    let mut cases = tally::with(tally::none(), sound(5, 9, 0));
+    cases = tally::with(cases, sound(5, 8, 3));
+    cases = tally::with(cases, sound(6, 8, 2));
+    cases = tally::with(cases, sound(6, 11, 2));
+    cases = tally::with(cases, sound(6, 64, 2));
+    cases = tally::with(cases, sound(32, 63, 2));
+    cases = tally::with(cases, sound(usize::MAX, 64, 2));
     cases = tally::with(cases, sound(1, 64, 0));
-    cases = tally::with(cases, sound(32, 64, 0));
+    cases = tally::with(cases, sound(5, 64, 0));
     cases = tally::with(cases, sound(1, 65, 3));
     cases = tally::with(cases, sound(0, 64, 2));
     tally::with(cases, sound(1, 0, 3))
@@ -123,8 +126,8 @@ pub fn ranges() -> Tally {
 pub fn all_adjacent() -> Tally {
     let mut cases = tally::with(tally::none(), all_of_64(1, 64));
     cases = tally::with(cases, all_of_64(1, 1));
-    cases = tally::with(cases, all_of_64(32, 63));
-    tally::with(cases, all_of_64(32, 64))
+    cases = tally::with(cases, all_of_64(5, 9));
+    tally::with(cases, all_of_64(5, 64))
 }
 
 pub fn none() -> Tally {

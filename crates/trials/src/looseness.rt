@@ -13,13 +13,6 @@ use judging::LoosenessFound;
 use judging::Request;
 use sets::Set;
 
-// The lowest 32, 33 and 34 vertices.
-const LOWEST_32: u64 = 4294967295;
-
-const LOWEST_33: u64 = 8589934591;
-
-const LOWEST_34: u64 = 17179869183;
-
 // Is the set so loose, number 0; or else is it this refusal with this value?
 fn gives(found: LoosenessFound, number: usize, value: usize) -> bool {
     match found {
@@ -62,14 +55,14 @@ fn ring(start: Tally) -> Tally {
     tally::with(cases, is(graphs::RING, 5, 31, 3))
 }
 
-// At the limit of slack and beyond it.
+// At the limit of slack and beyond it: five, six and seven vertices, and all.
 fn large(start: Tally) -> Tally {
     let mut cases = tally::with(start, is(graphs::COMPLETE, 64, u64::MAX, 1));
-    cases = tally::with(cases, is(EMPTY, 64, LOWEST_32, 32));
-    cases = tally::with(cases, is(EMPTY, 64, LOWEST_33, 33));
+    cases = tally::with(cases, is(EMPTY, 64, 31, 5));
+    cases = tally::with(cases, is(EMPTY, 64, 63, 6));
     cases = tally::with(cases, is(EMPTY, 64, u64::MAX, 64));
-    cases = tally::with(cases, is(graphs::STAR, 64, LOWEST_33, 32));
-    cases = tally::with(cases, is(graphs::STAR, 64, LOWEST_34, 33));
+    cases = tally::with(cases, is(graphs::STAR, 64, 63, 5));
+    cases = tally::with(cases, is(graphs::STAR, 64, 127, 6));
     cases = tally::with(cases, is(graphs::STAR, 64, u64::MAX, 63));
     cases = tally::with(cases, is(graphs::RING, 64, u64::MAX, 62));
     tally::with(cases, is(graphs::PATH, 64, u64::MAX, 63))

@@ -19,12 +19,13 @@ mod words;
 
 use crate::compare::Call;
 use crate::tally::Tally;
+use judging::check::MOST_SLACK;
 
 // How many graphs of each number of vertices a group of pseudo-random ones has: ten of each density from 0 to 100 in steps of 5.
 const RANDOM: usize = 210;
 
 // How many variants of the other families are changed: eight of each slack.
-const CHANGED: usize = 32;
+const CHANGED: usize = 8 * MOST_SLACK;
 
 fn list_cases() {
     tally::print(b"accepted slack and floor", lists::ranges());

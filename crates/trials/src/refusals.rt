@@ -111,20 +111,21 @@ fn no_rows() -> bool {
 pub fn judged() -> Tally {
     let mut cases = tally::with(tally::none(), no_rows());
     cases = tally::with(cases, judge(3, 1, 0, 32, 2, 0));
-    cases = tally::with(cases, judge(3, 1, 33, 32, 2, 0));
+    cases = tally::with(cases, judge(3, 1, 6, 32, 2, 0));
     cases = tally::with(cases, judge(3, 1, 1, 32, 4, 3));
     cases = tally::with(cases, judge(NOWHERE, 1, 1, 32, 5, 1));
     cases = tally::with(cases, judge(NOWHERE, NOWHERE, 1, 32, 7, 0));
-    tally::with(cases, judge(NOWHERE, NOWHERE, 32, 31, 0, 0))
+    tally::with(cases, judge(NOWHERE, NOWHERE, 5, 31, 0, 0))
 }
 
 // The core: 1, 2, 3, 4, 5. A reach: 1, 4, 5, 7.
 pub fn found() -> Tally {
     let mut cases = tally::with(tally::none(), core(3, 1, 0, 65, 2, 0));
-    cases = tally::with(cases, core(3, 1, 32, 62, 3, 0));
-    cases = tally::with(cases, core(3, 1, 32, 63, 4, 3));
-    cases = tally::with(cases, core(NOWHERE, 1, 32, 63, 5, 1));
-    cases = tally::with(cases, core(NOWHERE, NOWHERE, 32, 63, 0, 0));
+    cases = tally::with(cases, core(3, 1, 6, 8, 2, 0));
+    cases = tally::with(cases, core(3, 1, 5, 8, 3, 0));
+    cases = tally::with(cases, core(3, 1, 5, 9, 4, 3));
+    cases = tally::with(cases, core(NOWHERE, 1, 5, 9, 5, 1));
+    cases = tally::with(cases, core(NOWHERE, NOWHERE, 5, 9, 0, 0));
     cases = tally::with(cases, reach(3, 1, 5, 4, 3));
     cases = tally::with(cases, reach(NOWHERE, 1, 5, 5, 1));
     cases = tally::with(cases, reach(NOWHERE, NOWHERE, 5, 7, 0));
@@ -134,6 +135,7 @@ pub fn found() -> Tally {
 // 1, 2, 4, 5, 7, 10. In the ring 0 is adjacent to 1 and 4.
 pub fn bounded() -> Tally {
     let mut cases = tally::with(tally::none(), bound(3, 1, 0, 32, 32, 5, 2, 0));
+    cases = tally::with(cases, bound(3, 1, 6, 32, 32, 5, 2, 0));
     cases = tally::with(cases, bound(3, 1, 1, 32, 32, 5, 4, 3));
     cases = tally::with(cases, bound(NOWHERE, 1, 1, 32, 32, 5, 5, 1));
     cases = tally::with(cases, bound(NOWHERE, NOWHERE, 1, 33, 2, 1, 7, 0));
@@ -142,5 +144,6 @@ pub fn bounded() -> Tally {
     cases = tally::with(cases, bound(NOWHERE, NOWHERE, 1, 1, 4, 2, 10, 0));
     cases = tally::with(cases, bound(NOWHERE, NOWHERE, 1, 1, 4, 1, 10, 0));
     cases = tally::with(cases, bound(NOWHERE, NOWHERE, 1, 1, 3, 1, 10, 0));
-    tally::with(cases, bound(NOWHERE, NOWHERE, 1, 1, 2, 1, 0, 0))
+    cases = tally::with(cases, bound(NOWHERE, NOWHERE, 1, 1, 2, 1, 0, 0));
+    tally::with(cases, bound(NOWHERE, NOWHERE, 5, 1, 2, 1, 0, 0))
 }

@@ -146,10 +146,11 @@ fn heading_read() -> Tally {
     cases = tally::with(cases, damaged(0, 0, 65, NOWHERE, 0, 93, 0, 1, 0));
     cases = tally::with(cases, damaged(65, 0, 65, NOWHERE, 0, 93, 0, 1, 0));
     cases = tally::with(cases, damaged(5, 0, 65, NOWHERE, 0, 93, 0, 2, 0));
-    cases = tally::with(cases, damaged(5, 33, 64, NOWHERE, 0, 93, 0, 2, 0));
-    cases = tally::with(cases, damaged(5, 32, 62, NOWHERE, 0, 93, 0, 3, 0));
+    cases = tally::with(cases, damaged(5, 6, 64, NOWHERE, 0, 93, 0, 2, 0));
+    cases = tally::with(cases, damaged(5, 6, 8, NOWHERE, 0, 93, 0, 2, 0));
+    cases = tally::with(cases, damaged(5, 5, 8, NOWHERE, 0, 93, 0, 3, 0));
     cases = tally::with(cases, damaged(5, 1, 65, NOWHERE, 0, 93, 0, 3, 0));
-    cases = tally::with(cases, damaged(5, 32, 63, NOWHERE, 0, 93, 0, 8, 7));
+    cases = tally::with(cases, damaged(5, 5, 9, NOWHERE, 0, 93, 0, 8, 7));
     tally::with(cases, damaged(5, 1, 64, NOWHERE, 0, LENGTH, 4, 9, 5))
 }
 
@@ -222,11 +223,13 @@ fn faulty(
 // 1, 2, 3, 4, 5, 9
 pub fn written() -> Tally {
     let mut cases = tally::with(tally::none(), faulty(3, 1, 0, 65, 91, 2, 0));
+    cases = tally::with(cases, faulty(3, 1, 6, 8, 91, 2, 0));
+    cases = tally::with(cases, faulty(3, 1, 5, 8, 91, 3, 0));
     cases = tally::with(cases, faulty(3, 1, 1, 65, 91, 3, 0));
     cases = tally::with(cases, faulty(3, 1, 2, 3, 91, 4, 3));
     cases = tally::with(cases, faulty(64, 1, 2, 3, 91, 5, 1));
     cases = tally::with(cases, faulty(64, 64, 2, 3, 91, 9, LENGTH));
     cases = tally::with(cases, faulty(64, 64, 2, 3, 0, 9, LENGTH));
     cases = tally::with(cases, faulty(64, 64, 2, 3, LENGTH, 0, LENGTH));
-    tally::with(cases, faulty(64, 64, 32, 63, 100, 0, LENGTH))
+    tally::with(cases, faulty(64, 64, 5, 9, 100, 0, LENGTH))
 }

@@ -1,5 +1,6 @@
 //! Inputs that several tests share.
 use crate::instances::{self, Rng};
+use crate::refusals::MOST_SLACK;
 
 /// How many cases a test tries: `n`, and 25 times as many in the longer mode (KADVISK_LONG in the environment).
 pub fn many(n: usize) -> usize {
@@ -91,10 +92,20 @@ pub fn first_of<const N: usize>(refusals: [(usize, usize); N], chosen: [bool; N]
     refusals.into_iter().zip(chosen).find(|(_, holds)| *holds).map(|(refusal, _)| refusal)
 }
 
-/// Numbers at and around the limits.
+/// Slacks that no call accepts, however few of their bits are looked at.
+pub const LARGE_SLACKS: [usize; 14] =
+    [63, 64, 65, 255, 256, 261, (1 << 16) + 5, (1 << 31) + 1, u32::MAX as usize, 1 << 32, (1 << 32) + 5, 1 << 63, (1 << 63) + 1, usize::MAX];
+
+/// A slack: mostly one that is accepted, else one of 0 to 40 or a very large one.
 pub fn slack(rng: &mut Rng) -> usize {
-    [0, 1, 1, 2, 2, 3, 4, 5, 8, 31, 32, 33, 34, 255, usize::MAX][rng.below(15)]
+    match rng.below(10) {
+        0 | 1 => rng.below(41),
+        2 => LARGE_SLACKS[rng.below(LARGE_SLACKS.len())],
+        _ => rng.between(1, MOST_SLACK),
+    }
 }
+
+/// A floor at and around the limits.
 
 pub fn floor(rng: &mut Rng, k: usize) -> usize {
     let least = k.wrapping_mul(2).wrapping_sub(1);

@@ -1,6 +1,9 @@
 //! Which refusal a call owes, from the table of refusals: the number and the value of the first cause that holds, in the order of the call.
 use crate::plain::{adjacent, looseness};
 
+/// The most slack that is accepted.
+pub const MOST_SLACK: usize = 5;
+
 /// The number and the value of a refusal, or none.
 pub type Refused = Option<(usize, usize)>;
 
@@ -13,7 +16,7 @@ pub fn vertices(n: usize) -> Refused {
 }
 
 pub fn slack(k: usize) -> Refused {
-    when(k == 0 || k > 32, 2, 0)
+    when(k == 0 || k > MOST_SLACK, 2, 0)
 }
 
 pub fn floor(k: usize, q: usize) -> Refused {

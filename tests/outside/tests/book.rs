@@ -324,7 +324,7 @@ fn rows_that_were_written_over() {
 #[test]
 fn a_slack_and_a_floor_that_were_written_over() {
     let mut book = open(&instances::ring(5), 2, 3);
-    let words = [0, 1, 2, 3, 4, 5, 31, 32, 33, 62, 63, 64, 65, 255, 1 << 63, usize::MAX];
+    let words = [0, 1, 2, 3, 4, 5, 6, 7, 8, 9, 10, 11, 32, 63, 64, 65, 255, 1 << 63, usize::MAX];
     for (k, q) in words.into_iter().flat_map(|k| words.map(|q| (k, q))) {
         let change = Change::of(&book.rows, 0, 2);
         (book.slack, book.floor) = (k, q);
@@ -358,7 +358,7 @@ fn faulty(causes: [bool; 9], empty: bool, way: usize) -> (Book, Change) {
     }
     let (a, b) = named(outside, same, rows.len(), way);
     let stands = a < rows.len() && b < 64 && plain::adjacent(&rows, a, b);
-    let slack = if slack { [0, 33, 1 << 63, usize::MAX][way] } else { 1 };
+    let slack = if slack { [0, 6, 1 << 63, usize::MAX][way] } else { 1 };
     let floor = if floor { [0, 65, 1 << 63, usize::MAX][way] } else { 1 };
     let slots = (0..if short { way.min(2) } else { 9 }).map(|i| 0x0123_4567_89AB_CDEF + i as u64).collect();
     (Book { rows, slack, floor, slots }, Change { a, b, adjacent: stands == unchanged })

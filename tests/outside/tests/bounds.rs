@@ -3,6 +3,7 @@ use outside::calls::{first_bound, refused, second_bound, success};
 use outside::cases::{graph, grown_plex, many, subset};
 use outside::instances::Rng;
 use outside::plain;
+use outside::refusals::MOST_SLACK;
 
 /// A place where the bounds are defined: a k-plex s, candidates c beside it, and a vertex v of c that makes a k-plex with s.
 fn place(rng: &mut Rng, rows: &[u64], k: usize) -> Option<(u64, u64, usize)> {
@@ -16,8 +17,8 @@ fn place(rng: &mut Rng, rows: &[u64], k: usize) -> Option<(u64, u64, usize)> {
 fn random_places_of_up_to_64_vertices() {
     let mut rng = Rng(10);
     let (mut cases, mut apart) = (0, 0);
-    for case in 0..many(30_000) {
-        let (rows, k) = (graph(&mut rng, 1, 64), rng.between(1, if case % 5 == 0 { 32 } else { 5 }));
+    for _ in 0..many(30_000) {
+        let (rows, k) = (graph(&mut rng, 1, 64), rng.between(1, MOST_SLACK));
         if let Some((s, c, v)) = place(&mut rng, &rows, k) {
             let (first, second) = (plain::first_bound(&rows, k, s, c, v), plain::second_bound(&rows, k, s, c, v));
             assert_eq!(first_bound(&rows, k, s, c, v), success(0, first as u64), "{rows:X?} k={k} s={s:X} c={c:X} v={v}");

@@ -2,11 +2,12 @@
 use outside::calls::{core, core_refused, cored, reach};
 use outside::cases::{all_graphs, faulty_rows, first_of, graph, many};
 use outside::instances::{self, Rng};
-use outside::{plain, refusals};
+use outside::plain;
+use outside::refusals::{self, MOST_SLACK};
 
 /// Every slack that is accepted, with every floor beside it.
 fn requests() -> impl Iterator<Item = (usize, usize)> {
-    (1..=32).flat_map(|k| (2 * k - 1..=64).map(move |q| (k, q)))
+    (1..=MOST_SLACK).flat_map(|k| (2 * k - 1..=64).map(move |q| (k, q)))
 }
 
 /// Holds the call and the wrapper to plain passes, the core to the worklist, and the passes to what is shown of them. Gives the core and the passes.
@@ -66,7 +67,7 @@ fn at_every_slack_and_floor() {
             hold(rows, k, q);
         });
     }
-    assert_eq!(requests().count(), 1056);
+    assert_eq!(requests().count(), 300);
 }
 
 /// The passes of a graph with vertices of degree 2 or more wanted.
@@ -124,7 +125,7 @@ fn each_refusal_beside_each_other() {
         let causes: [bool; 5] = std::array::from_fn(|i| choice >> i & 1 == 1);
         let [vertices, slack, floor, row, one_way] = causes;
         let rows = faulty_rows([vertices, row, one_way], choice >> 5 == 1);
-        for k in if slack { vec![0, 33, usize::MAX] } else { vec![1, 32] } {
+        for k in if slack { vec![0, 6, 32, usize::MAX] } else { vec![1, 5] } {
             let least = 2usize.wrapping_mul(k).wrapping_sub(1);
             // beside a wrong slack every floor is wrong or not looked at
             for q in if floor { vec![0, least.wrapping_sub(1), 65, usize::MAX] } else { vec![least, 64] } {

@@ -3,6 +3,7 @@ use outside::calls::{first_bound, is_maximal, largest, looseness, reach, refused
 use outside::cases::{all_graphs, graph, grown_plex, many, subset};
 use outside::instances::{self, Rng};
 use outside::plain;
+use outside::refusals::MOST_SLACK;
 
 fn yes_no(b: bool) -> kadvisk::ffi::Outcome {
     success(0, b as u64)
@@ -35,8 +36,8 @@ fn how_loose_random_sets_of_up_to_64_vertices_are() {
         let s = subset(&mut rng, rows.len());
         let (loose, larger) = (hold_looseness(&rows, s), hold_looseness(&rows, s | subset(&mut rng, rows.len())));
         assert!(loose <= larger, "{rows:X?} s={s:X}");
-        above[0] += (loose > 32) as usize;
-        above[1] += (larger > 32) as usize;
+        above[0] += (loose > MOST_SLACK) as usize;
+        above[1] += (larger > MOST_SLACK) as usize;
     }
     println!("{cases} pairs of sets, of which {above:?} are looser than the limit of slack");
     assert!(above[0] > 1000 && above[1] > 1000);
@@ -63,7 +64,7 @@ fn refusals_10_and_11_and_maximality_compare_looseness_with_the_slack() {
         let rows = graph(&mut rng, 2, 40);
         let (s, v) = (subset(&mut rng, rows.len()), rng.below(rows.len()));
         let (loose, larger, c) = (looseness(&rows, s).found as usize, looseness(&rows, s | 1 << v).found as usize, 1 << v & !s);
-        for k in 1..=32 {
+        for k in 1..=MOST_SLACK {
             let bounded = first_bound(&rows, k, s & !c, c, v).number == 0;
             assert_eq!(bounded, c != 0 && larger <= k, "{rows:X?} k={k} s={s:X} v={v}");
             assert!(loose <= k || is_maximal(&rows, k, s) == yes_no(false), "{rows:X?} k={k} s={s:X}");
@@ -99,8 +100,8 @@ fn every_set_of_every_graph_of_up_to_five_vertices() {
 fn random_sets_of_up_to_64_vertices() {
     let mut rng = Rng(2);
     let (mut plexes, mut maximal) = (0, 0);
-    for case in 0..many(20_000) {
-        let (rows, k) = (graph(&mut rng, 1, 64), rng.between(1, if case % 5 == 0 { 32 } else { 5 }));
+    for _ in 0..many(20_000) {
+        let (rows, k) = (graph(&mut rng, 1, 64), rng.between(1, MOST_SLACK));
         let n = rows.len();
         let s = match rng.below(4) {
             0 => subset(&mut rng, n),

@@ -5,6 +5,7 @@ use outside::cases::{all_graphs, faulty_rows, first_of, graph, grown_plex, many,
 use outside::instances::{self, Rng};
 use outside::largest::{by_all_sets, plain};
 use outside::plain::{full, looseness, members};
+use outside::refusals::MOST_SLACK;
 
 /// Holds both calls to what is wanted, and the answer to what it means: a maximal k-plex that holds the forced vertices.
 fn hold(rows: &[u64], k: usize, forced: u64, (size, mask): (usize, u64)) {
@@ -25,13 +26,13 @@ fn hold_by_all_sets(rows: &[u64], k: usize, forced: u64) {
     }
 }
 
-/// Every slack from 1 to 2 above the number of vertices, and every set of vertices forced. How many cases there are.
+/// Every slack and every set of vertices forced. How many cases there are.
 fn hold_every(rows: &[u64]) -> usize {
     let n = rows.len();
-    for k in 1..=n + 2 {
+    for k in 1..=MOST_SLACK {
         (0..1u64 << n).for_each(|forced| hold_by_all_sets(rows, k, forced));
     }
-    (n + 2) << n
+    MOST_SLACK << n
 }
 
 /// A k-plex to force: none, one vertex, or some more.
@@ -75,7 +76,7 @@ fn random_graphs_of_up_to_14_vertices() {
     let cases = many(4000);
     for case in 0..cases {
         let rows = if case % 10 == 0 { graph(&mut rng, 12, 14) } else { graph(&mut rng, 1, 11) };
-        let k = if rng.chance(0.8) { rng.between(1, 4) } else { rng.between(1, rows.len() + 2) };
+        let k = rng.between(1, MOST_SLACK);
         let forced = if rng.chance(0.2) { subset(&mut rng, rows.len()) } else { some_forced(&mut rng, &rows, k) };
         hold_by_all_sets(&rows, k, forced);
     }
@@ -90,7 +91,7 @@ fn graphs_that_fall_apart() {
         let n = if case % 10 == 0 { rng.between(11, 13) } else { rng.between(2, 10) };
         let (part, inside, seed) = (rng.between(1, n.div_ceil(2)), rng.unit(), rng.word());
         let rows = instances::communities(n, part, inside, 0.0, seed);
-        let k = rng.between(1, n + 2);
+        let k = rng.between(1, MOST_SLACK);
         let forced = some_forced(&mut rng, &rows, k);
         hold_by_all_sets(&rows, k, forced);
         let mask = largest(&rows, k, forced).found;
@@ -190,28 +191,29 @@ fn worked_edges() {
     hold(&three, 1, 4, (1, 4));
     assert_eq!(largest(&three, 1, 3), refused((11, 0)));
     hold(&[0], 1, 0, (1, 1));
-    hold(&[0], 32, 1, (1, 1));
+    hold(&[0], 5, 1, (1, 1));
     for n in [1, 2, 5, 63, 64] {
-        for k in [1, 2, 31, 32] {
+        for k in [1, 2, 4, 5] {
             let all = (n, full(n));
             hold(&instances::complete(n), k, full(n), all);
             hold(&instances::complete(n), k, 0, all);
         }
     }
     // no edges: any k vertices are the most, and the lowest are those that are forced and the first
-    for k in [1, 2, 5, 31, 32] {
+    for k in 1..=5 {
         hold(&[0; 64], k, 0, (k, full(k)));
         hold(&[0; 64], k, 1 << 63, (k, full(k - 1) | 1 << 63));
     }
     // all are forced, and one too many
-    hold(&[0; 32], 32, full(32), (32, full(32)));
-    assert_eq!(largest(&[0; 33], 32, full(33)), refused((11, 0)));
+    hold(&[0; 5], 5, full(5), (5, full(5)));
+    assert_eq!(largest(&[0; 6], 5, full(6)), refused((11, 0)));
     // each vertex of MANN_a9 misses at most five, itself counted
     hold(&instances::mann_a9(), 5, full(45), (45, full(45)));
     assert_eq!(largest(&instances::mann_a9(), 4, full(45)), refused((11, 0)));
-    // two halves
-    hold(&instances::multipartite(64, 32), 32, 1, (64, u64::MAX));
-    hold(&instances::multipartite(64, 32), 31, 0, (62, u64::MAX >> 33 | (u64::MAX >> 33) << 32));
+    // twelve parts of five and one of four: at slack 4 the highest vertex of each of the twelve is left out
+    let fives = instances::multipartite(64, 5);
+    hold(&fives, 5, 1, (64, u64::MAX));
+    hold(&fives, 4, 0, (52, (0..12).fold(u64::MAX, |mask, part| mask & !(1 << (5 * part + 4)))));
 }
 
 /// An input with the chosen ones of the causes 1, 2, 4, 5, 7, 11, and the refusal that it owes. With cause 1 it has no row, or 65.
@@ -228,7 +230,7 @@ fn the_order_of_causes() {
     let mut seen = [0; 12];
     for choice in 0..64u32 {
         let causes = std::array::from_fn(|i| choice >> i & 1 == 1);
-        for (empty, slack) in [(false, 0), (true, 0), (false, 33), (true, usize::MAX)] {
+        for (empty, slack) in [(false, 0), (true, 0), (false, 6), (true, usize::MAX)] {
             let (rows, k, forced, owed) = faulty(causes, empty, slack);
             assert_eq!(owed, outside::refusals::largest(&rows, k, forced), "causes {causes:?}");
             assert_eq!(largest(&rows, k, forced), owed.map_or(success(1, 1), refused), "causes {causes:?}");

@@ -31,7 +31,7 @@ fn every_graph_of_up_to_five_vertices() {
     let mut cases = 0;
     for n in 1..=5 {
         for rows in all_graphs(n) {
-            for k in 1..=3 {
+            for k in 1..=5 {
                 for q in 2 * k - 1..=n.max(2 * k - 1) + 1 {
                     hold(&rows, k, q, &brute::list(&rows, k, q));
                     cases += 1;
@@ -49,7 +49,7 @@ fn random_graphs_of_up_to_16_vertices() {
     let cases = many(10_000);
     for case in 0..cases {
         let rows = if case % 25 == 0 { graph(&mut rng, 13, 16) } else { graph(&mut rng, 1, 12) };
-        let k = if rng.chance(0.85) { rng.between(1, 3) } else { rng.between(4, 8) };
+        let k = if rng.chance(0.85) { rng.between(1, 3) } else { rng.between(4, 5) };
         let q = (2 * k - 1 + rng.below(4)).min(64);
         let want = brute::list(&rows, k, q);
         plexes += want.len();
@@ -176,25 +176,31 @@ fn long_lists_are_stored_in_order() {
 
 #[test]
 fn the_largest_slack() {
-    // 64 vertices: at slack 32 the floor is 63 or 64
     let complete = instances::complete(64);
-    hold(&complete, 32, 63, &[u64::MAX]);
     hold(&complete, 1, 64, &[u64::MAX]);
-    hold(&complete, 32, 64, &[u64::MAX]);
-    let halves = instances::multipartite(64, 32);
-    hold(&halves, 32, 64, &[u64::MAX]);
-    // one vertex of each half is left out
-    let mut want: Vec<u64> = (0..32).flat_map(|a| (32..64).map(move |b| !(1 << a | 1 << b))).collect();
+    hold(&complete, 5, 9, &[u64::MAX]);
+    hold(&complete, 5, 64, &[u64::MAX]);
+    // twelve parts of five and one of four: all are a 5-plex
+    hold(&instances::multipartite(64, 5), 5, 9, &[u64::MAX]);
+    // two parts of six, and every other edge: one vertex of each part is left out
+    let mut sixes = complete.clone();
+    (0..12).for_each(|v| sixes[v] &= !(0x3F << (6 * (v / 6))));
+    let mut want: Vec<u64> = (0..6).flat_map(|a| (6..12).map(move |b| !(1 << a | 1 << b))).collect();
     want.sort_unstable();
-    hold(&halves, 31, 61, &want);
-    let mut rng = Rng(32);
+    hold(&sixes, 5, 9, &want);
+    hold(&sixes, 5, 62, &want);
+    hold(&sixes, 5, 63, &[]);
+    // graphs whose vertices miss about seven
+    let (mut rng, mut plexes) = (Rng(32), 0);
     for _ in 0..many(300) {
-        let (k, seed) = (rng.between(6, 32), rng.word());
-        let n = rng.between((2 * k - 1).min(60), 64);
-        let rows = instances::random(n, 1.0 - (k as f64 + 2.0) / 64.0, seed);
-        let q = rng.between(n.max(2 * k - 1) - 1, 64).max(2 * k - 1);
-        hold(&rows, k, q, &fp::list(&rows, k, q));
+        let rows = instances::random(rng.between(9, 64), 1.0 - 7.0 / 64.0, rng.word());
+        let q = rng.between(rows.len() - 6, 64).max(9);
+        let want = fp::list(&rows, 5, q);
+        plexes += want.len();
+        hold(&rows, 5, q, &want);
     }
+    println!("dense graphs at slack 5: {plexes} plexes");
+    assert!(plexes > 1000);
 }
 
 #[test]
@@ -210,7 +216,7 @@ fn worked_edges() {
     hold(&[0], 1, 2, &[]);
     // a floor above n
     hold(&ring, 1, 6, &[]);
-    hold(&ring, 32, 64, &[]);
+    hold(&ring, 5, 64, &[]);
 }
 
 #[test]

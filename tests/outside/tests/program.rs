@@ -61,7 +61,7 @@ fn sheets() {
         hold(&program, &text::write(&rows, k, 2 * k - 1 + rng.below(8)));
     }
     hold(&program, &text::write(&instances::complete(64), 1, 64));
-    hold(&program, &text::write(&instances::complete(64), 32, 63));
+    hold(&program, &text::write(&instances::complete(64), 5, 9));
     hold(&program, &text::write(&instances::random(64, 0.3, 1), 2, 3));
     hold(&program, &text::write(&instances::random(64, 0.2, 1), 1, 2));
     // just as many masks as there are slots, and one plex more

@@ -212,18 +212,20 @@ fn limits_of_slack_and_floor() {
     let rows = outside::instances::complete(64);
     let mut none: [u64; 0] = [];
     for (k, q, number) in [
-        (32, 63, 6),
-        (32, 62, 3),
-        (33, 64, 2),
-        (33, 65, 2),
+        (5, 9, 6),
+        (5, 8, 3),
+        (6, 11, 2),
+        (6, 8, 2),
+        (6, 64, 2),
+        (6, 65, 2),
+        (32, 63, 2),
         (0, 0, 2),
         (1, 0, 3),
         (1, 1, 6),
         (1, 64, 6),
         (1, 65, 3),
-        (32, 64, 6),
-        (5, 8, 3),
-        (5, 9, 6),
+        (5, 64, 6),
+        (5, 65, 3),
         (usize::MAX, usize::MAX, 2),
         (1, usize::MAX, 3),
         (1usize << 63, 0, 2),
@@ -252,9 +254,9 @@ fn the_order_of_causes() {
     // all causes at once, then one after the other put right
     let mut slots = [GARBAGE; 1];
     let mut call = |rows: &[u64], k, q, want: Outcome| assert_eq!(list(rows, k, q, &mut slots), want);
-    call(&[0; 65], 33, 65, refused((1, 0)));
-    call(&[], 33, 65, refused((1, 0)));
-    call(&[3, 4, 0], 33, 65, refused((2, 0)));
+    call(&[0; 65], 6, 65, refused((1, 0)));
+    call(&[], 6, 65, refused((1, 0)));
+    call(&[3, 4, 0], 6, 65, refused((2, 0)));
     call(&[3, 4, 0], 2, 65, refused((3, 0)));
     call(&[2, 4, 8, 0], 2, 3, refused((5, 0)));
     call(&[2, 5, 4, 0], 2, 3, refused((4, 2)));

@@ -3,13 +3,14 @@ use kadvisk::ffi::ReadOutcome;
 use outside::calls::{read_sheet, refused, success, unread, write_sheet};
 use outside::cases::{damage, graph, many};
 use outside::instances::Rng;
+use outside::refusals::MOST_SLACK;
 use outside::text;
 
 const ROW: u64 = 0x5555_0000_AAAA_FFFF;
 const BYTE: u8 = 0xA5;
 
 fn request(rng: &mut Rng) -> (usize, usize) {
-    let k = rng.between(1, 32);
+    let k = rng.between(1, MOST_SLACK);
     (k, rng.between(2 * k - 1, 64))
 }
 
@@ -192,14 +193,14 @@ fn worked_edges() {
     assert_eq!(read_sheet(b"050203\n", &mut rows), unread((8, 2)));
     // line 1 by 8, then 1, 2, 3, then the other lines
     assert_eq!(read_sheet(b"000000\n", &mut rows), unread((1, 0)));
-    assert_eq!(read_sheet(b"412100\n", &mut rows), unread((1, 0)));
-    assert_eq!(read_sheet(b"402100\n", &mut rows), unread((2, 0)));
-    assert_eq!(read_sheet(b"402041\n", &mut rows), unread((3, 0)));
-    assert_eq!(read_sheet(b"40203E\n", &mut rows), unread((3, 0)));
-    assert_eq!(read_sheet(b"40203F\n", &mut rows), unread((8, 2)));
+    assert_eq!(read_sheet(b"410600\n", &mut rows), unread((1, 0)));
+    assert_eq!(read_sheet(b"400600\n", &mut rows), unread((2, 0)));
+    assert_eq!(read_sheet(b"400541\n", &mut rows), unread((3, 0)));
+    assert_eq!(read_sheet(b"400508\n", &mut rows), unread((3, 0)));
+    assert_eq!(read_sheet(b"400509\n", &mut rows), unread((8, 2)));
     assert_eq!(read_sheet(&[&ring[..], b"\n"].concat(), &mut rows), unread((8, 7)));
     assert_eq!(read_sheet(ring, &mut rows[..4]), unread((9, 5)));
-    let longest = text::write(&outside::instances::complete(64), 32, 64);
+    let longest = text::write(&outside::instances::complete(64), 5, 64);
     assert_eq!(longest.len(), 1095);
     hold_reading(&longest, 64);
 }
