@@ -2,6 +2,7 @@
 //! has several of one kind, taken one after the other, so that no call sees the same graph twice running.
 use crate::turns;
 use outside::instances;
+use outside::refusals::MOST_SLACK;
 
 /// So many random graphs to a row.
 const SEEDS: u64 = 32;
@@ -47,10 +48,15 @@ fn queue(rows: &[u64], least: u32) -> u64 {
 }
 
 /// Refusals 1, 2, 3, 4 and 5: is there none?
-#[inline(never)]
 fn accepted(rows: &[u64], slack: usize, floor: usize) -> bool {
+    (1..=MOST_SLACK).contains(&slack) && (2 * slack - 1..=64).contains(&floor) && is_graph(rows)
+}
+
+/// Refusals 1, 4 and 5: is there none?
+#[inline(never)]
+pub fn is_graph(rows: &[u64]) -> bool {
     let n = rows.len();
-    if !(1..=64).contains(&n) || !(1..=5).contains(&slack) || !(2 * slack - 1..=64).contains(&floor) {
+    if !(1..=64).contains(&n) {
         return false;
     }
     if rows.iter().enumerate().any(|(a, row)| row >> a & 1 == 1 || row & !(u64::MAX >> (64 - n)) != 0) {

@@ -1,13 +1,14 @@
 //! Times the library on graphs of our own making: with each cut switched, against independent implementations, what placing costs, how the time
-//! grows, the largest k-plex, changes of a book, and the core alone.
+//! grows, the largest k-plex, changes of a book, the core alone, and the bounds alone.
 //! Prints tables in Markdown. One command:
 //!
 //!   cargo run --release --offline --package bench
 //!
-//!   bench --part NAME     cuts, placing, growth, largest, changes or cores alone, or wide: many instances of other kinds
+//!   bench --part NAME     cuts, placing, growth, largest, changes, cores or bounds alone, or wide: many instances of other kinds
 //!   bench --only NAME     the rows of one graph in the tables of cuts, of the largest k-plex and of changes
 //!   bench --rivals        the table of cuts with the independent implementations alone
 //!   bench --limit S       leave a run that takes more than S seconds (3)
+mod bounds;
 mod changes;
 mod clock;
 mod cores;
@@ -248,6 +249,9 @@ fn main() {
     }
     if part("cores") && after("--only").is_none() {
         cores::all();
+    }
+    if part("bounds") && after("--only").is_none() {
+        bounds::all();
     }
     if after("--part") == Some("wide") {
         wide::all();

@@ -1,6 +1,7 @@
 //! Many instances of other kinds, with up to 64 vertices, each at two floors where a run takes at most some milliseconds: to find where a rival is faster.
 use crate::{apart, median, once};
 use outside::instances::*;
+use outside::refusals::MOST_SLACK;
 use outside::{cliques, fp};
 use std::time::Duration;
 
@@ -101,7 +102,7 @@ pub fn all() {
     let mut cases: Vec<(f64, f64, String)> = vec![];
     let mut left = 0;
     for graph in 0..graphs().len() {
-        for k in 1..=5 {
+        for k in 1..=MOST_SLACK {
             let Some(said) = apart(&["--wide".into(), graph.to_string(), k.to_string()], Duration::from_secs(5)) else {
                 left += 1;
                 continue;

@@ -18,6 +18,9 @@ fn questions() {
     assert_eq!(kadvisk::core(&RING, 2, 4), Ok(Core { mask: 0x1F, passes: 1 }));
     assert_eq!(kadvisk::core(&RING, 2, 5), Ok(Core { mask: 0, passes: 2 }));
     assert_eq!(kadvisk::core(&RING, 2, 2), Err(Refusal::Floor));
+    assert_eq!(kadvisk::core(&RING, 5, 9), Ok(Core { mask: 0, passes: 2 }));
+    assert_eq!(kadvisk::core(&RING, 5, 8), Err(Refusal::Floor));
+    assert_eq!(kadvisk::core(&RING, 6, 11), Err(Refusal::Slack));
     assert_eq!(kadvisk::core(&[0x12, 0x05, 0x0A, 0x14, 0x08], 2, 4), Err(Refusal::OneWay(0)));
     assert_eq!(kadvisk::reach(&[2, 5, 10, 4], 0), Ok(7));
     let seven = [0x0E, 0x7D, 0x7B, 0x77, 0x0E, 0x0E, 0x0E];
