@@ -13,7 +13,6 @@ use mathlib.Core.List.{List, [], _∷_, map, List·Memᴰ·head, List·Memᴰ·t
 use lib.ListN.{length, getD, set, length-map}
 use lib.Seq.{getD-set-same, getD-set-other}
 use Rattle.sets.specs.Ranges.{from, range, keep, total, greatest}
-use Rattle.sets.specs.Set.{bit, Sub}
 use Rattle.sets.specs.Graph.{row}
 use Rattle.sets.specs.RangeLaws.{Mem, length-from}
 
@@ -49,14 +48,6 @@ row-set b d x l = getD-set-same b d x 0 l
 pub row-other : (b : List ℕ) (d a x : ℕ) → a ≢ d → row (set b d x) a ≡ row b a
 unfolding row
 row-other b d a x ne = getD-set-other b d a x 0 ne
-
--- a larger one than was there: no set loses a member
-pub row-sub : (b : List ℕ) (d x : ℕ) → d < length b → Sub (row b d) x → (a : ℕ) → Sub (row b a) (row (set b d x) a)
-row-sub b d x l h a u = go (ℕ-discrete a d)
-  where
-    go : Dec (a ≡ d) → bit (row b a) u ≤ bit (row (set b d x) a) u
-    go (yes q) = rw (q, row-set b d x l) (h u)
-    go (no nq) = omega (arith, ap (λ (y : ℕ). bit y u) (row-other b d a x nq))
 
 -- ---- the greatest value
 

@@ -92,7 +92,7 @@ pub fn first_of<const N: usize>(refusals: [(usize, usize); N], chosen: [bool; N]
     refusals.into_iter().zip(chosen).find(|(_, holds)| *holds).map(|(refusal, _)| refusal)
 }
 
-/// Slacks that no call accepts, however few of their bits are looked at.
+/// Very large slacks: of some the lowest 8, 16 or 32 bits would be accepted by themselves.
 pub const LARGE_SLACKS: [usize; 14] =
     [63, 64, 65, 255, 256, 261, (1 << 16) + 5, (1 << 31) + 1, u32::MAX as usize, 1 << 32, (1 << 32) + 5, 1 << 63, (1 << 63) + 1, usize::MAX];
 
@@ -106,7 +106,6 @@ pub fn slack(rng: &mut Rng) -> usize {
 }
 
 /// A floor at and around the limits.
-
 pub fn floor(rng: &mut Rng, k: usize) -> usize {
     let least = k.wrapping_mul(2).wrapping_sub(1);
     [0, least, least, least, least.wrapping_sub(1), least.wrapping_add(1), least.wrapping_add(3), 62, 63, 64, 65, 256, usize::MAX][rng.below(13)]
