@@ -75,6 +75,17 @@ fn sheets() {
 }
 
 #[test]
+fn every_slack_of_a_sheet() {
+    let (program, parts) = (program(), instances::multipartite(11, 6));
+    for k in 0..=255usize {
+        let sheet = text::write(&parts, k, (2 * k).saturating_sub(1).clamp(1, 64));
+        hold(&program, &sheet);
+        let refused = !(1..=5).contains(&k);
+        assert_eq!(run(&program, &sheet) == b"R02 0000000000000000\n", refused, "k={k}");
+    }
+}
+
+#[test]
 fn damaged_sheets() {
     let program = program();
     let mut rng = Rng(41);
