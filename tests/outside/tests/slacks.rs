@@ -1,5 +1,6 @@
 //! Every call that takes a slack, at each slack from 0 to 40 and at very large ones: 1 to 5 are answered, and every other is refusal 2, which leaves the
 //! buffers.
+use kadvisk::ffi::{Outcome, ReadOutcome};
 use outside::book::{Book, Change};
 use outside::calls::*;
 use outside::cases::LARGE_SLACKS;
@@ -76,7 +77,7 @@ fn of_the_list_with_every_cut_and_none() {
             let want = if owed.is_none() { brute::list(rows, k, q) } else { vec![] };
             let m = want.len();
             let after = [&want[..], &[GARBAGE; 2]].concat();
-            let calls: [&dyn Fn(&mut [u64]) -> kadvisk::ffi::Outcome; 3] =
+            let calls: [&dyn Fn(&mut [u64]) -> Outcome; 3] =
                 [&|slots| list(rows, k, q, slots), &|slots| list_with(rows, k, q, 127, slots), &|slots| list_with(rows, k, q, 0, slots)];
             for call in calls {
                 let mut slots = vec![GARBAGE; m + 2];
@@ -125,18 +126,15 @@ fn of_writing_a_sheet() {
 
 #[test]
 fn of_reading_a_sheet() {
+    let (ring, before) = (instances::ring(5), [GARBAGE; 6]);
     // two digits: 0 to 255
     for (k, q) in (0..256).flat_map(|k| (0..256).map(move |q| (k, q))) {
-        let mut rows = [GARBAGE; 6];
-        let outcome = read_sheet(&text::write(&instances::ring(5), k, q), &mut rows);
+        let mut rows = before;
+        let outcome = read_sheet(&text::write(&ring, k, q), &mut rows);
         hold_two(outcome.number, k);
-        let right = (1..=5).contains(&k) && (2 * k - 1..=64).contains(&q);
-        assert_eq!(
-            (outcome.number, outcome.vertices, outcome.slack, outcome.floor),
-            if right { (0, 5, k, q) } else { (if outcome.number == 2 { 2 } else { 3 }, 0, 0, 0) }
-        );
-        assert_eq!(rows[0], if right { 0x12 } else { GARBAGE });
-        assert_eq!(rows[5], GARBAGE);
+        let owed = refusals::slack(k).or_else(|| refusals::floor(k, q));
+        assert_eq!(outcome, owed.map_or(ReadOutcome { number: 0, value: 0, vertices: 5, slack: k, floor: q }, unread));
+        assert_eq!(rows[..], if owed.is_some() { before.to_vec() } else { [&ring[..], &[GARBAGE]].concat() });
     }
 }
 
