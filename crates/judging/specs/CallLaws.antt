@@ -69,6 +69,11 @@ pub accepted : (b o : Bool) → b ≡ not o → not b ≡ false → o ≡ false
 accepted b true h e = sym (ap not h) ∙ e
 accepted b false h e = refl
 
+-- no cause is left
+pub no-cause : passed ≡ firstOf [] passed
+unfolding firstOf
+no-cause = refl
+
 module _ (c : Cause) (cs : List Cause) {b : Bool} (h : b ≡ not (c .holds)) where
   pub test-refused : not b ≡ true → refused (c .number) (c .value) ≡ firstOf (c ∷ cs) passed
   test-refused e = sym (first-holds c cs passed (not-accepted b (c .holds) h e))

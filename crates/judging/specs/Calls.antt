@@ -71,9 +71,17 @@ graphCheck g = vertexCause (length g) ∷ graphCauses g
 unfoldable pub slackCheck : List ℕ → ℕ → List Cause
 slackCheck g k = vertexCause (length g) ∷ slackCause k ∷ graphCauses g
 
+-- 1, 2, 3
+unfoldable pub numberCheck : List ℕ → ℕ → ℕ → List Cause
+numberCheck g k q = vertexCause (length g) ∷ slackCause k ∷ floorCause k q ∷ []
+
 -- 1, 2, 3, 4, 5
+unfoldable pub floorCheck : List ℕ → ℕ → ℕ → List Cause
+floorCheck g k q = numberCheck g k q ++ graphCauses g
+
+-- 1, 2, 3, 7, 4, 5
 unfoldable pub requestCheck : List ℕ → Request → List Cause
-requestCheck g ask = vertexCause (length g) ∷ slackCause (ask .slack) ∷ floorCause (ask .slack) (ask .floor) ∷ graphCauses g
+requestCheck g ask = numberCheck g (ask .slack) (ask .floor) ++ setCause g (ask .silent) ∷ graphCauses g
 
 -- 1, 4, 5, 7
 unfoldable pub insideCheck : List ℕ → ℕ → List Cause

@@ -20,7 +20,7 @@ use Rattle.judging.specs.Graph.{adjacent, Valid}
 use Rattle.judging.specs.Request.{Request}
 use Rattle.judging.specs.Refusal.{Reply, refused, answered, Cause, firstOf, mostVertices, mostSlack, outside, vertexCause, slackCause, floorCause}
 use Rattle.judging.specs.Refusal.{badRow, oneWay, lowestRow, rowCause, edgeCause, graphCauses, setCause, vertexOutCause}
-use Rattle.judging.specs.Calls.{passed, graphCheck, slackCheck, requestCheck, insideCheck, setCheck}
+use Rattle.judging.specs.Calls.{passed, graphCheck, slackCheck, numberCheck, floorCheck, requestCheck, insideCheck, setCheck}
 use Rattle.judging.specs.Setting.{Sized, Judgeable}
 
 -- ---- one cause after the other
@@ -243,23 +243,44 @@ module _ (g : List ℕ) where
   unfolding slackCheck graphCheck
   slack-graph k e = first-skips _ _ passed (passed-head _ _ e) ∙ passed-tail _ _ (passed-tail _ _ e)
 
-  pub request-slack : (ask : Request) → firstOf (requestCheck g ask) passed ≡ passed → firstOf (slackCheck g (ask .slack)) passed ≡ passed
-  unfolding slackCheck requestCheck
-  request-slack ask e =
+  pub set-below : (s : ℕ) → setCause g s .holds ≡ false → s < 2 ^ length g
+  unfolding setCause
+  set-below s e = leb-false (2 ^ length g) s e
+
+  pub numbers-sized : (k q : ℕ) → firstOf (numberCheck g k q) passed ≡ passed → Sized g
+  unfolding numberCheck vertexCause
+  numbers-sized k q e = sized (passed-head _ _ e)
+
+  pub floor-slack : (k q : ℕ) → firstOf (floorCheck g k q) passed ≡ passed → firstOf (slackCheck g k) passed ≡ passed
+  unfolding slackCheck floorCheck numberCheck
+  floor-slack k q e =
       let after = passed-tail _ _ e in
       first-skips _ _ passed (passed-head _ _ e)
       ∙ first-skips _ _ passed (passed-head _ _ after)
       ∙ passed-tail _ _ (passed-tail _ _ after)
 
-  pub floor-accepted : (ask : Request) → firstOf (requestCheck g ask) passed ≡ passed
-      → (2 * ask .slack - 1 ≤ ask .floor) × (ask .floor ≤ mostVertices)
-  unfolding requestCheck floorCause
-  floor-accepted ask e =
-      within-range (2 * ask .slack - 1) mostVertices (ask .floor) (passed-head _ _ (passed-tail _ _ (passed-tail _ _ e)))
+  pub floor-accepted : (k q : ℕ) → firstOf (floorCheck g k q) passed ≡ passed → (2 * k - 1 ≤ q) × (q ≤ mostVertices)
+  unfolding floorCheck numberCheck floorCause
+  floor-accepted k q e = within-range (2 * k - 1) mostVertices q (passed-head _ _ (passed-tail _ _ (passed-tail _ _ e)))
 
-  pub set-below : (s : ℕ) → setCause g s .holds ≡ false → s < 2 ^ length g
-  unfolding setCause
-  set-below s e = leb-false (2 ^ length g) s e
+  -- a request that passes has a slack and a floor that pass, and a silent set within the graph
+  module _ (ask : Request) (e : firstOf (requestCheck g ask) passed ≡ passed) where
+    numbers : List Cause
+    numbers = numberCheck g (ask .slack) (ask .floor)
+
+    pub request-floor : firstOf (floorCheck g (ask .slack) (ask .floor)) passed ≡ passed
+    unfolding floorCheck requestCheck numbers
+    request-floor =
+        first-append numbers (graphCauses g) passed
+        ∙ first-passed numbers _ (passed-front numbers _ e)
+        ∙ passed-tail _ _ (passed-back numbers _ e)
+
+    pub request-slack : firstOf (slackCheck g (ask .slack)) passed ≡ passed
+    request-slack = floor-slack (ask .slack) (ask .floor) request-floor
+
+    pub silent-accepted : ask .silent < 2 ^ length g
+    unfolding requestCheck numbers
+    silent-accepted = set-below (ask .silent) (passed-head _ _ (passed-back numbers _ e))
 
   pub vertex-below : (v : ℕ) → vertexOutCause g v .holds ≡ false → v < length g
   unfolding vertexOutCause

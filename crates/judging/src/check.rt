@@ -7,7 +7,7 @@ ghost use lib.ListN.{length};
 ghost use Rattle.sets.specs.Words.{mask, masks};
 ghost use Rattle.judging.specs.Request.{asked};
 ghost use Rattle.judging.specs.Refusal.{mostVertices, mostSlack, outside, Cause, firstOf, badRow, oneWay, lowestRow, graphCauses, setCause};
-ghost use Rattle.judging.specs.Calls.{passed, checkedReply, graphCheck, slackCheck, requestCheck, insideCheck, setCheck};
+ghost use Rattle.judging.specs.Calls.{passed, checkedReply, graphCheck, slackCheck, numberCheck, floorCheck, requestCheck, insideCheck, setCheck};
 ghost use Rattle.judging.specs.Setting.{Sized, LowRows};
 use crate::Checked;
 use crate::Refusal;
@@ -140,20 +140,54 @@ fn check_slack(rows: &[u64], slack: usize) -> Checked
     check_edges(rows)
 }
 
-// Refusals 1, 2, 3, 4 and 5.
-pub fn check_request(rows: &[u64], request: Request) -> Checked
-    ensures { λ r. ⌜ checkedReply r ≡ firstOf (requestCheck (masks (now (rows .entry))) (asked request)) passed ⌝ }
+// Refusals 1, 2 and 3.
+fn check_numbers(rows: &[u64], slack: usize, floor: usize) -> Checked
+    ensures { λ r. ⌜ checkedReply r ≡ firstOf (numberCheck (masks (now (rows .entry))) slack floor) passed ⌝ }
 {
     if !rows_accepted(rows) {
         return Checked::Failed(Refusal::Vertices);
     }
-    if !slack_accepted(request.slack) {
+    if !slack_accepted(slack) {
         return Checked::Failed(Refusal::Slack);
     }
-    if !floor_accepted(request.slack, request.floor) {
+    if !floor_accepted(slack, floor) {
         return Checked::Failed(Refusal::Floor);
     }
+    Checked::Passed
+}
+
+// Refusals 1, 2, 3, 4 and 5.
+pub fn check_floor(rows: &[u64], slack: usize, floor: usize) -> Checked
+    ensures { λ r. ⌜ checkedReply r ≡ firstOf (floorCheck (masks (now (rows .entry))) slack floor) passed ⌝ }
+{
+    let checked = check_numbers(rows, slack, floor);
+    if let Checked::Failed(f) = checked {
+        return Checked::Failed(f);
+    }
     check_edges(rows)
+}
+
+// Refusal 7 of the silent set, and then 4 and 5.
+pub fn check_silent(rows: &[u64], silent: Set) -> Checked
+    requires { ⌜ Sized (masks (now rows)) ⌝ }
+    ensures { λ r. ⌜ checkedReply r ≡ firstOf (setCause (masks (now (rows .entry))) (mask silent) ∷ graphCauses (masks (now (rows .entry)))) passed ⌝ }
+{
+    if !sets::below(silent, sets::count(rows)) {
+        return Checked::Failed(Refusal::Outside);
+    }
+    check_edges(rows)
+}
+
+// Refusals 1, 2, 3, 7, 4 and 5.
+pub fn check_request(rows: &[u64], request: Request) -> Checked
+    ensures { λ r. ⌜ checkedReply r ≡ firstOf (requestCheck (masks (now (rows .entry))) (asked request)) passed ⌝ }
+{
+    let checked = check_numbers(rows, request.slack, request.floor);
+    if let Checked::Failed(f) = checked {
+        return Checked::Failed(f);
+    }
+    let silent = request.silent;
+    check_silent(rows, silent)
 }
 
 // What the checks before it gave, and then refusal 7.

@@ -45,10 +45,11 @@ pub enum Judged {
     Refused(Refusal),
 }
 
-// What is asked of a graph: the slack k and the floor q.
+// What is asked of a graph: the slack k, the floor q, and the silent vertices, which do not count at the floor.
 pub struct Request {
     pub slack: usize,
     pub floor: usize,
+    pub silent: Set,
 }
 
 // Document 01's number of a refusal.

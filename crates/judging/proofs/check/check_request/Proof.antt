@@ -1,52 +1,26 @@
--- One test after the other, in the order of the causes: the number of rows, the slack, the floor, and then the edges.
-use Rattle.judging.specs.Refusal.{mostSlack, vertexCause, slackCause, floorCause}
-use Rattle.judging.specs.Calls.{requestCheck}
-use Rattle.judging.specs.RefusalLaws.{sized, within-range}
-use Rattle.judging.specs.CallLaws.{accepted, test-refused, test-accepted}
+-- The numbers decide first; once they have passed, the silent set and the edges.
+use mathlib.Core.Path.{_∙_, sym}
+use Rattle.judging.specs.Calls.{numberCheck, requestCheck, passed}
+use Rattle.judging.specs.RefusalLaws.{numbers-sized}
+use Rattle.judging.specs.CallLaws.{none-holds, front-refused, front-accepted}
 use borrow.Author.Needs.{needs}
 use Rattle.judging.proofs.check.check_request.Statement.{statement}
 use Rattle.judging.proofs.check.check_request.Tie as tie
 
 returns : tie.Need-returns
-unfolding requestCheck vertexCause slackCause floorCause
-returns c = test-refused _ _ (c .before .rows-accepted .ensures) (c .if1 .taken)
+unfolding requestCheck
+returns c = front-refused (numberCheck _ _ _) _ passed (c .before .before .before .check-numbers .ensures) (c .before .checked .given .1)
+
+check-silent-requires : tie.Need-check-silent-requires
+check-silent-requires c κs =
+    let told = c .before in
+    numbers-sized _ _ _ (none-holds (numberCheck _ _ _) _ (told .before .before .check-numbers .ensures) (told .enum-told .given .1))
 
 returns-2 : tie.Need-returns-2
-unfolding requestCheck vertexCause slackCause floorCause
+unfolding requestCheck
 returns-2 c =
-    let rows = c .before .before in
-    test-accepted _ _ (rows .before .rows-accepted .ensures) (rows .if1 .left)
-    (test-refused _ _ (c .before .slack-accepted .ensures) (c .if2 .taken))
-
-floor-accepted-requires : tie.Need-floor-accepted-requires
-floor-accepted-requires c κs = within-range 1 mostSlack _ (accepted _ _ (c .before .slack-accepted .ensures) (c .if2 .left))
-
-returns-3 : tie.Need-returns-3
-unfolding requestCheck vertexCause slackCause floorCause
-returns-3 c =
-    let slack = c .before .before in
-    let rows = slack .before .before in
-    test-accepted _ _ (rows .before .rows-accepted .ensures) (rows .if1 .left)
-    (test-accepted _ _ (slack .before .slack-accepted .ensures) (slack .if2 .left)
-    (test-refused _ _ (c .before .floor-accepted .ensures) (c .if3 .taken)))
-
-check-edges-requires : tie.Need-check-edges-requires
-check-edges-requires c κs =
-    let rows = c .before .before .before .before in
-    sized _ (accepted _ _ (rows .before .rows-accepted .ensures) (rows .if1 .left))
-
-returns-4 : tie.Need-returns-4
-unfolding requestCheck vertexCause slackCause floorCause
-returns-4 c =
-    let floor = c .before in
-    let slack = floor .before .before in
-    let rows = slack .before .before in
-    test-accepted _ _ (rows .before .rows-accepted .ensures) (rows .if1 .left)
-    (test-accepted _ _ (slack .before .slack-accepted .ensures) (slack .if2 .left)
-    (test-accepted _ _ (floor .before .floor-accepted .ensures) (floor .if3 .left) (c .check-edges .ensures)))
+    let told = c .before .before in
+    c .check-silent .ensures ∙ sym (front-accepted (numberCheck _ _ _) _ passed (told .before .before .check-numbers .ensures) (told .enum-told .given .1))
 
 pub check-request-spec : {M : Type 1} → statement M
-check-request-spec =
-    tie.close
-    (tie.spec
-    (λ c. search needs) returns (λ c. search needs) returns-2 floor-accepted-requires returns-3 check-edges-requires returns-4)
+check-request-spec = tie.close (tie.spec (λ c. search needs) (λ c. search needs) returns (λ c. search needs) check-silent-requires returns-2)
