@@ -6,13 +6,12 @@ use mathlib.Core.List.{List, [], _∷_}
 use lib.ListN.{length}
 use Rattle.sets.specs.Set.{full}
 use borrow.Author.Tests.{le-leb, lt-leb}
-use Rattle.judging.specs.Request.{request}
 use Rattle.judging.specs.Refusal.{refused, answered, firstOf, vertexOutCause}
-use Rattle.judging.specs.Calls.{refusal, passed, checkedReply, graphCheck, requestCheck}
+use Rattle.judging.specs.Calls.{refusal, passed, checkedReply, graphCheck, floorCheck}
 use Rattle.judging.specs.Graph.{Valid}
 use Rattle.judging.specs.Setting.{Sized, LowRows}
 use Rattle.judging.specs.RefusalLaws.{first-holds, first-skips}
-use Rattle.judging.specs.RefusalLaws.{graph-sized, graph-checked, slack-graph, slack-accepted, request-slack, floor-accepted}
+use Rattle.judging.specs.RefusalLaws.{graph-sized, graph-checked, slack-graph, slack-accepted, floor-slack, floor-accepted}
 use Rattle.judging.specs.CallLaws.{none-holds, front-refused, front-accepted}
 use Rattle.judging.specs.declared.Refusal.{Refusal}
 use Rattle.judging.specs.declared.Checked.{Checked}
@@ -23,18 +22,18 @@ use Rattle.bounds.specs.Calls.{reachCheck, reachReply}
 
 -- ---- the core
 
-module _ (g : List ℕ) (k q : ℕ) {r : Checked} (h : checkedReply r ≡ firstOf (requestCheck g (request k q)) passed) (e : r ≡ Passed) where
-  none : firstOf (requestCheck g (request k q)) passed ≡ passed
+module _ (g : List ℕ) (k q : ℕ) {r : Checked} (h : checkedReply r ≡ firstOf (floorCheck g k q) passed) (e : r ≡ Passed) where
+  none : firstOf (floorCheck g k q) passed ≡ passed
   none = none-holds _ r h e
 
   graph-passed : firstOf (graphCheck g) passed ≡ passed
-  graph-passed = slack-graph g k (request-slack g (request k q) none)
+  graph-passed = slack-graph g k (floor-slack g k q none)
 
   pub core-peelable : Sized g × Valid g
   core-peelable = (graph-sized g graph-passed, graph-checked g graph-passed)
 
   pub core-floor : k ≤ q
-  core-floor = omega (arith, slack-accepted g k (request-slack g (request k q) none), floor-accepted g (request k q) none)
+  core-floor = omega (arith, slack-accepted g k (floor-slack g k q none), floor-accepted g k q none)
 
 pub peeling-found : (g : List ℕ) (m : ℕ) {c n : ℕ} → (c ≡ core g m) × (n ≡ passes g m (full (length g)))
     → _≡_ {A = Peeling} (record { core = c; passes = n }) (peeling g m)

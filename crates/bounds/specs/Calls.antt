@@ -6,9 +6,8 @@
 use Prim.Native.Nat.{ℕ, _-_}
 use mathlib.Core.List.{List, [], _∷_, _++_}
 use Rattle.sets.specs.Words.{mask}
-use Rattle.judging.specs.Request.{request}
 use Rattle.judging.specs.Refusal.{Reply, answered, Cause, firstOf, vertexOutCause}
-use Rattle.judging.specs.Calls.{refusal, graphCheck, requestCheck}
+use Rattle.judging.specs.Calls.{refusal, graphCheck, floorCheck}
 use Rattle.bounds.specs.Core.{Peeling, peeling}
 use Rattle.bounds.specs.Reach.{reach}
 use Rattle.bounds.specs.declared.CoreFound.{CoreFound}
@@ -21,7 +20,7 @@ coreFoundReply (coreFound.Core p) = answered 0 (record { core = mask (p .core); 
 coreFoundReply (coreFound.Refused f) = refusal f
 
 unfoldable pub coreReply : List ℕ → ℕ → ℕ → Reply Peeling
-coreReply g k q = firstOf (requestCheck g (request k q)) (answered 0 (peeling g (q - k)))
+coreReply g k q = firstOf (floorCheck g k q) (answered 0 (peeling g (q - k)))
 
 abbrev pub reachFoundReply : ReachFound → Reply ℕ
 reachFoundReply (reachFound.Reach s) = answered 0 (mask s)

@@ -2,27 +2,27 @@
 -- passed its checks, so that the laws of what it answers hold of its input.
 use Prim.Native.Nat.{ℕ, suc, _+_, _*_, _-_, _^_, _≤_, _<_}
 use native.Mathlib.Omega.{arith}
-use mathlib.Core.Path.{_≡_, refl, sym, ap, subst, _∙_}
+use mathlib.Core.Path.{_≡_, sym, ap, subst, _∙_}
 use mathlib.Core.List.{List, [], _∷_}
 use lib.Bits.{bitOr}
 use lib.Count.{ones-ones}
+use lib.Pow.{ones-lt}
 use lib.ListN.{length}
 use Rattle.sets.specs.Set.{In, Sub, size, with, full}
 use Rattle.sets.specs.SubsetLaws.{sub-with, sub-trans, in-of-sub, with-same}
 use Rattle.judging.specs.Graph.{Valid}
 use Rattle.judging.specs.Plex.{Plex}
-use Rattle.judging.specs.Request.{request}
 use Rattle.judging.specs.Refusal.{answered, firstOf, vertexOutCause}
-use Rattle.judging.specs.Calls.{graphCheck, requestCheck}
+use Rattle.judging.specs.Calls.{graphCheck, floorCheck}
 use Rattle.judging.specs.RefusalLaws.{answered-passed, answered-value, answered-found, passed-front, graph-checked}
-use Rattle.bounds.specs.Core.{Dense, core, pass, leave, passes, Peeling, peeling}
+use Rattle.bounds.specs.Core.{Dense, core, coreWithin, pass, leave, passes, Peeling, peeling}
 use Rattle.bounds.specs.Reach.{reach}
 use Rattle.bounds.specs.Bound.{firstBound, secondBound, largest}
 use Rattle.bounds.specs.Calls.{coreReply, reachCheck, reachReply}
 use Rattle.bounds.specs.BoundCalls.{boundCheck, firstBoundReply, secondBoundReply}
 use Rattle.bounds.specs.BoundSetting.{Boundable}
-use Rattle.bounds.specs.CoreLaws.{core-below, core-complete, core-dense, plex-core}
-use Rattle.bounds.specs.PassLaws.{holds-dense-none, passes-leave, passes-some, passes-most, one-pass-core, core-one-pass}
+use Rattle.bounds.specs.CoreLaws.{core-below, core-complete, core-dense, core-within-full, plex-core}
+use Rattle.bounds.specs.PassLaws.{passes-leave, passes-some, passes-most, one-pass-core, core-one-pass}
 use Rattle.bounds.specs.PassLaws.{last-takes-none, others-take-some}
 use Rattle.bounds.specs.ReachLaws.{plex-reach}
 use Rattle.bounds.specs.BoundLaws.{second-first}
@@ -34,11 +34,11 @@ use Rattle.bounds.specs.BoundCallLaws.{bound-checked}
 module _ (g : List ℕ) (k q : ℕ) {v : ℕ} {p : Peeling} (e : coreReply g k q ≡ answered v p) where
   pub core-value : v ≡ 0
   unfolding coreReply
-  core-value = answered-value (requestCheck g (request k q)) 0 (peeling g (q - k)) e
+  core-value = answered-value (floorCheck g k q) 0 (peeling g (q - k)) e
 
   found : p ≡ peeling g (q - k)
   unfolding coreReply
-  found = answered-found (requestCheck g (request k q)) 0 (peeling g (q - k)) e
+  found = answered-found (floorCheck g k q) 0 (peeling g (q - k)) e
 
   pub core-answer : p .core ≡ core g (q - k)
   unfolding peeling
@@ -64,18 +64,24 @@ module _ (g : List ℕ) (k q : ℕ) {v : ℕ} {p : Peeling} (e : coreReply g k q
   unfolding peeling
   core-passes = ap (λ (x : Peeling). x .passes) found
 
+  within-all : p .core ≡ coreWithin g (q - k) (full (length g))
+  within-all = core-answer ∙ sym (core-within-full g (q - k))
+
+  left : leave (passes g (q - k) (full (length g))) g (q - k) (full (length g)) ≡ p .core
+  left = passes-leave g (q - k) (full (length g)) (ones-lt (length g)) ∙ sym within-all
+
   pub core-by-passes : leave (p .passes) g (q - k) (full (length g)) ≡ p .core
-  core-by-passes = rw (core-passes, core-answer) (passes-leave g (q - k) (full (length g)) (holds-dense-none refl))
+  core-by-passes = rw core-passes left
 
   -- there is at least one pass, and one alone exactly where nothing is taken out
   pub core-some-pass : 1 ≤ p .passes
   core-some-pass = rw core-passes (passes-some g (q - k) (full (length g)))
 
   pub core-one-pass-whole : p .passes ≡ 1 → p .core ≡ full (length g)
-  core-one-pass-whole one = core-answer ∙ one-pass-core g (q - k) (sym core-passes ∙ one)
+  core-one-pass-whole one = within-all ∙ one-pass-core g (q - k) (full (length g)) (ones-lt (length g)) (sym core-passes ∙ one)
 
   pub core-whole-one-pass : p .core ≡ full (length g) → p .passes ≡ 1
-  core-whole-one-pass whole = core-passes ∙ core-one-pass g (q - k) (sym core-answer ∙ whole)
+  core-whole-one-pass whole = core-passes ∙ core-one-pass g (q - k) (full (length g)) (sym within-all ∙ whole)
 
   -- the last takes none, and each before it takes some
   pub core-last-pass : (i : ℕ) → p .passes ≡ suc i → pass g (q - k) (leave i g (q - k) (full (length g))) ≡ leave i g (q - k) (full (length g))
@@ -87,10 +93,7 @@ module _ (g : List ℕ) (k q : ℕ) {v : ℕ} {p : Peeling} (e : coreReply g k q
 
   -- the passes are at most one more than the vertices taken out
   pub core-passes-most : p .passes ≤ 1 + (length g - size (p .core))
-  core-passes-most =
-      let all = full (length g) in
-      let left = passes-leave g (q - k) all (holds-dense-none refl) in
-      omega (arith, core-passes, ap size core-answer, passes-most g (q - k) all, ap size left, ones-ones (length g), core-some-pass)
+  core-passes-most = omega (arith, core-passes, passes-most g (q - k) (full (length g)), ap size left, ones-ones (length g), core-some-pass)
 
 -- ---- the reach
 

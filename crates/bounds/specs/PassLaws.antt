@@ -1,30 +1,28 @@
--- Laws of the passes. A pass takes no member of a dense set inside s, and takes one where s is not dense itself; so the passes from all vertices on end at
--- the core. There is at least one, each but the last takes a vertex, and so they are at most one more than the vertices taken out.
+-- Laws of the passes. A pass takes no member of a dense set inside s, and takes one where s is not dense itself; so the passes from t on end at the core
+-- within t. There is at least one, each but the last takes a vertex, and so they are at most one more than the vertices taken out.
 --
---   HoldsDense g m s   s holds every dense set of the graph
+--   HoldsDense g m t s   s is a part of t, and holds every dense set within t
 use Prim.Native.Nat.{ℕ, zero, suc, _+_, _^_, _≤_, _<_}
-use native.Mathlib.Nat.{le-refl, lt-of-le-of-lt, lt-of-not-le, eq-or-lt-of-le}
+use native.Mathlib.Nat.{le-refl, lt-of-not-le, eq-or-lt-of-le}
 use native.Mathlib.Numerals.{add-one}
 use native.Mathlib.Omega.{arith}
 use mathlib.Core.Path.{_≡_, refl, sym, ap, subst, _∙_}
 use mathlib.Core.Bool.{Bool, true, false, cond}
 use mathlib.Core.Logic.{⊎-elim}
 use mathlib.Core.List.{List}
-use lib.Pow.{pow-pos}
 use lib.Dec.{leb, eqb}
 use lib.ListN.{length}
 use borrow.Author.Count.{below-none, below-more}
 use borrow.Author.Tests.{leb-true, leb-false, eqb-true, eqb-false, eq-eqb, ne-eqb}
-use Rattle.sets.specs.Set.{bit, In, Sub, size, without, full}
+use Rattle.sets.specs.Set.{bit, In, Sub, size, without}
 use Rattle.sets.specs.BitLaws.{ext, bit-minus}
 use Rattle.sets.specs.PointLaws.{by-bit, single-out}
 use Rattle.sets.specs.SizeLaws.{sub-size-eq}
-use Rattle.sets.specs.SubsetLaws.{sub-number, sub-refl, sub-trans, sub-antisym, minus-sub, without-same}
-use Rattle.sets.specs.WordLaws.{sub-full}
+use Rattle.sets.specs.SubsetLaws.{sub-refl, sub-trans, sub-antisym, sub-below, minus-sub, without-same}
 use Rattle.judging.specs.Graph.{degree}
 use Rattle.judging.specs.GraphLaws.{degree-mono}
-use Rattle.bounds.specs.Core.{Dense, core, look, passTo, pass, leave, passesWithin, passes}
-use Rattle.bounds.specs.CoreLaws.{core-dense, core-unique}
+use Rattle.bounds.specs.Core.{Dense, coreWithin, look, passTo, pass, leave, passesWithin, passes}
+use Rattle.bounds.specs.CoreLaws.{core-within-dense, core-within-unique}
 
 -- ---- a look at one vertex: it stays, or it goes
 
@@ -232,41 +230,43 @@ module _ (g : List ℕ) (m : ℕ) where
       (λ s e. rw (passes-last s e) (omega (arith, ap size e)))
       (λ s ne more. rw (passes-more s ne) (omega (arith, more, pass-falls g m s ne)))
 
--- ---- from all vertices on: the core
+-- ---- from t on: the core within t
 
-pub record HoldsDense (g : List ℕ) (m s : ℕ) : Type 0 where
+pub record HoldsDense (g : List ℕ) (m t s : ℕ) : Type 0 where
   pub below : s < 2 ^ length g
-  pub holds : (t : ℕ) → t < 2 ^ length g → Dense g m t → Sub t s
+  pub part : Sub s t
+  pub holds : (u : ℕ) → u < 2 ^ length g → Sub u t → Dense g m u → Sub u s
 
-pub holds-dense-none : {g : List ℕ} {m s : ℕ} → s ≡ full (length g) → HoldsDense g m s
-holds-dense-none {g} e =
-    record {
-      below = omega (arith, e, pow-pos (length g));
-      holds = λ t b d. rw e (sub-full (length g) t b);
-    }
+pub holds-dense-none : {g : List ℕ} {m t : ℕ} → t < 2 ^ length g → HoldsDense g m t t
+holds-dense-none {g} {m} {t} b = record { below = b; part = sub-refl t; holds = λ u l h d. h }
 
-module _ {g : List ℕ} {m s : ℕ} (h : HoldsDense g m s) where
-  pub holds-dense-next : HoldsDense g m (pass g m s)
+module _ {g : List ℕ} {m t s : ℕ} (h : HoldsDense g m t s) where
+  pub holds-dense-next : HoldsDense g m t (pass g m s)
   holds-dense-next =
       record {
-        below = lt-of-le-of-lt (sub-number (pass g m s) s (pass-sub g m s)) (h .below);
-        holds = λ t b d. pass-keeps g m s t d (h .holds t b d);
+        below = sub-below (length g) (pass g m s) s (pass-sub g m s) (h .below);
+        part = sub-trans (pass g m s) s t (pass-sub g m s) (h .part);
+        holds = λ u b l d. pass-keeps g m s u d (h .holds u b l d);
       }
 
-  pub holds-dense-all : pass g m s ≡ s → s ≡ core g m
-  holds-dense-all e = core-unique g m s (h .below) (pass-still g m s e) (h .holds)
+  pub holds-dense-all : pass g m s ≡ s → s ≡ coreWithin g m t
+  holds-dense-all e = core-within-unique g m t s (h .below) (h .part) (pass-still g m s e) (h .holds)
 
--- going in passes gives the core
-pub passes-leave : (g : List ℕ) (m s : ℕ) → HoldsDense g m s → leave (passes g m s) g m s ≡ core g m
+-- going in passes gives the core within t
+holds-dense-leave : (g : List ℕ) (m t s : ℕ) → HoldsDense g m t s → leave (passes g m s) g m s ≡ coreWithin g m t
 unfolding leave
-passes-leave g m =
-    by-passes (λ s. HoldsDense g m s → leave (passes g m s) g m s ≡ core g m) g m
+holds-dense-leave g m t =
+    by-passes (λ s. HoldsDense g m t s → leave (passes g m s) g m s ≡ coreWithin g m t) g m
     (λ s e h. rw (passes-last g m s e) (e ∙ holds-dense-all h e))
     (λ s ne more h. rw (passes-more g m s ne) (more (holds-dense-next h)))
 
--- so there is one pass exactly where every vertex is in the core
-pub one-pass-core : (g : List ℕ) (m : ℕ) → passes g m (full (length g)) ≡ 1 → core g m ≡ full (length g)
-one-pass-core g m one = sym (holds-dense-all (holds-dense-none refl) (one-pass-still g m (full (length g)) one))
+module _ (g : List ℕ) (m t : ℕ) (b : t < 2 ^ length g) where
+  pub passes-leave : leave (passes g m t) g m t ≡ coreWithin g m t
+  passes-leave = holds-dense-leave g m t t (holds-dense-none b)
 
-pub core-one-pass : (g : List ℕ) (m : ℕ) → core g m ≡ full (length g) → passes g m (full (length g)) ≡ 1
-core-one-pass g m e = passes-last g m (full (length g)) (dense-still g m (full (length g)) (subst (Dense g m) e (core-dense g m)))
+  -- so there is one pass exactly where all of t is in it
+  pub one-pass-core : passes g m t ≡ 1 → coreWithin g m t ≡ t
+  one-pass-core one = sym (holds-dense-all (holds-dense-none b) (one-pass-still g m t one))
+
+pub core-one-pass : (g : List ℕ) (m t : ℕ) → coreWithin g m t ≡ t → passes g m t ≡ 1
+core-one-pass g m t e = passes-last g m t (dense-still g m t (subst (Dense g m) e (core-within-dense g m t)))

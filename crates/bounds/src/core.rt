@@ -1,5 +1,6 @@
-// The core, by passes. A set is walked by its lowest member, and nothing is stored. The first pass looks at every vertex; a later one only at those in
-// doubt: the members that have lost a neighbour since a pass looked at them. What is not in doubt has enough neighbours, so that a look would let it stay.
+// The core, of the graph and within a set, by passes. A set is walked by its lowest member, and nothing is stored. The first pass looks at every vertex; a
+// later one only at those in doubt: the members that have lost a neighbour since a pass looked at them. What is not in doubt has enough neighbours, so that a
+// look would let it stay.
 ghost use mathlib.Core.Path.{_≡_};
 ghost use Prim.Native.Nat.{_<_, _≤_};
 ghost use lib.ListN.{length};
@@ -7,7 +8,7 @@ ghost use Rattle.sets.specs.Words.{width, mask, masks};
 ghost use Rattle.sets.specs.Set.{full};
 ghost use Rattle.judging.specs.Graph.{degree, Valid};
 ghost use Rattle.judging.specs.Setting.{Sized, Judgeable};
-ghost use Rattle.bounds.specs.Core.{core, passes};
+ghost use Rattle.bounds.specs.Core.{core, coreWithin, passes};
 ghost use Rattle.bounds.specs.PassSetting.{Doubtable, Passes};
 use sets::Set;
 
@@ -31,7 +32,8 @@ fn degree(rows: &[u64], s: Set, v: usize) -> usize
     sets::size(sets::meet(s, sets::get(rows, v)))
 }
 
-// One pass through s by rising number: takes out each vertex that is adjacent to fewer than m of those still left, before it looks at the next.
+// One pass through s by rising number: takes out each vertex that is adjacent to fewer than m of those still left, before it looks at the next. No vertex
+// is asked whether it is in s: with one that is not, nothing goes, and that its neighbours come into doubt costs a look.
 fn first_pass(rows: &[u64], m: usize, s: Set) -> Passed
     requires { ⌜ Judgeable (masks (now rows)) (mask s) ⌝ }
     ensures { λ r. ⌜ Passes (masks (now (rows .entry))) m (mask s) (mask (r .kept)) (mask (r .doubt)) ⌝ }
@@ -75,13 +77,13 @@ fn later_pass(rows: &[u64], m: usize, s: Set, doubted: Set) -> Passed
     Passed { kept, doubt: next }
 }
 
-// The largest set in which every member is adjacent to at least m members: passes from all vertices on, up to the first that takes none, which counts.
-pub fn peel(rows: &[u64], m: usize) -> Peeled
-    requires { ⌜ Sized (masks (now rows)) × Valid (masks (now rows)) ⌝ }
-    ensures { λ r. ⌜ (mask (r .core) ≡ core (masks (now (rows .entry))) m)
-        × (r .passes ≡ passes (masks (now (rows .entry))) m (full (length (masks (now (rows .entry)))))) ⌝ }
+// The largest set within start in which every member is adjacent to at least m members: passes from start on, up to the first that takes none, which counts.
+fn peel_from(rows: &[u64], m: usize, start: Set) -> Peeled
+    requires { ⌜ Judgeable (masks (now rows)) (mask start) ⌝ }
+    ensures { λ r. ⌜ (mask (r .core) ≡ coreWithin (masks (now (rows .entry))) m (mask start))
+        × (r .passes ≡ passes (masks (now (rows .entry))) m (mask start)) ⌝ }
 {
-    let mut s = sets::full(sets::count(rows));
+    let mut s = start;
     let first = first_pass(rows, m, s);
     let mut kept = first.kept;
     let mut doubt = first.doubt;
@@ -96,10 +98,27 @@ pub fn peel(rows: &[u64], m: usize) -> Peeled
     Peeled { core: s, passes }
 }
 
+// The core, and the passes from all vertices on.
+pub fn peel(rows: &[u64], m: usize) -> Peeled
+    requires { ⌜ Sized (masks (now rows)) × Valid (masks (now rows)) ⌝ }
+    ensures { λ r. ⌜ (mask (r .core) ≡ core (masks (now (rows .entry))) m)
+        × (r .passes ≡ passes (masks (now (rows .entry))) m (full (length (masks (now (rows .entry)))))) ⌝ }
+{
+    peel_from(rows, m, sets::full(sets::count(rows)))
+}
+
 // The core alone.
 pub fn core(rows: &[u64], m: usize) -> Set
     requires { ⌜ Sized (masks (now rows)) × Valid (masks (now rows)) ⌝ }
     ensures { λ r. ⌜ mask r ≡ core (masks (now (rows .entry))) m ⌝ }
 {
     peel(rows, m).core
+}
+
+// The core within s: the same passes, from s on.
+pub fn core_within(rows: &[u64], m: usize, s: Set) -> Set
+    requires { ⌜ Judgeable (masks (now rows)) (mask s) ⌝ }
+    ensures { λ r. ⌜ mask r ≡ coreWithin (masks (now (rows .entry))) m (mask s) ⌝ }
+{
+    peel_from(rows, m, s).core
 }

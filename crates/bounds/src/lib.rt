@@ -16,7 +16,6 @@ pub mod reach;
 use core::Peeled;
 use judging::Checked;
 use judging::Refusal;
-use judging::Request;
 use sets::Set;
 
 // The answer to a question for the core.
@@ -31,19 +30,19 @@ pub enum ReachFound {
     Refused(Refusal),
 }
 
-// The core of the graph with these rows, for the slack k and the floor q of the request, and how many passes it took.
+// The core of the graph with these rows, for the slack k and the floor q, and how many passes it took.
 // Outcome: the largest set in which every member is adjacent to at least q - k members; it may be empty, and holds every k-plex of q or more members. A pass
 // goes through the vertices left by rising number and takes out each that is adjacent to fewer than q - k of those still left, before it looks at the next;
 // the first pass that takes none is the last, and counts. They are at most one more than the vertices taken out.
 // Refusals: 1, 2, 3, 4, 5. Cost: one walk over the table, then one look at each vertex and at each that has lost a neighbour since.
-pub fn find_core(rows: &[u64], request: Request) -> CoreFound
-    ensures { λ r. ⌜ coreFoundReply r ≡ coreReply (masks (now (rows .entry))) (request .slack) (request .floor) ⌝ }
+pub fn find_core(rows: &[u64], slack: usize, floor: usize) -> CoreFound
+    ensures { λ r. ⌜ coreFoundReply r ≡ coreReply (masks (now (rows .entry))) slack floor ⌝ }
 {
-    let checked = judging::check::check_request(rows, request);
+    let checked = judging::check::check_floor(rows, slack, floor);
     if let Checked::Failed(f) = checked {
         return CoreFound::Refused(f);
     }
-    CoreFound::Core(core::peel(rows, request.floor - request.slack))
+    CoreFound::Core(core::peel(rows, floor - slack))
 }
 
 // The two-hop reach of the vertex v in the graph with these rows.
