@@ -1,7 +1,6 @@
 -- What the public calls of this crate answer, and what they leave in the lent buffers, for every input.
 --
 --   Heading             n and the request, which a read that succeeds returns
---   headingIn t         what line 1 of the text t says
 --   ReadSheet           reading a text into lent rows answered r and left the rows so
 --   WroteSheet          writing rows and a request into lent text answered r and left the text so
 use Prim.Native.Nat.{ℕ}
@@ -11,7 +10,7 @@ use lib.ListN.{length}
 use Rattle.judging.specs.Request.{Request, asked}
 use Rattle.judging.specs.Refusal.{Reply, refused, answered}
 use Rattle.judging.specs.Calls.{refusal}
-use Rattle.sheets.specs.Sheet.{Sheet, vertexField, requestIn, sheetText, reading, writing, rowsAfter, textAfter}
+use Rattle.sheets.specs.Sheet.{Sheet, sheetText, reading, writing, rowsAfter, textAfter}
 use Rattle.sheets.specs.declared.SheetRead.{SheetRead}
 use Rattle.sheets.specs.declared.SheetRead.the-variants as reads
 use Rattle.sheets.specs.declared.SheetWritten.{SheetWritten}
@@ -23,9 +22,6 @@ pub record Heading : Type 0 where
 
 abbrev pub heading : ℕ → Request → Heading
 heading n ask = record { vertices = n; request = ask }
-
-abbrev pub headingIn : List ℕ → Heading
-headingIn t = heading (vertexField t) (requestIn t)
 
 -- of a sheet that is read, n and the request are returned
 abbrev pub headingOf : Reply Sheet → Reply Heading

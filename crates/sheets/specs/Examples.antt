@@ -1,37 +1,52 @@
--- Document 01's example of a sheet, read and written, and the empty text, which is refused at line 1.
+-- Document 01's example of a sheet, with document 02's line of zeros, read and written; the same with a silent vertex, and with what is refused; and the
+-- empty text, which is refused at line 1.
 use Prim.Native.Nat.{ℕ}
 use mathlib.Core.Path.{_≡_, refl}
 use mathlib.Core.List.{List, [], _∷_}
 use Rattle.judging.specs.Request.{request}
 use Rattle.judging.specs.Refusal.{refused, answered, firstOf, outside, vertexCause, slackCause, floorCause}
-use Rattle.judging.specs.Refusal.{badRow, oneWay, lowestRow, rowCause, edgeCause, graphCauses}
+use Rattle.judging.specs.Refusal.{badRow, oneWay, lowestRow, rowCause, edgeCause, graphCauses, setCause}
 use Rattle.sets.specs.Ranges.{from, range, all, any, first}
 use Rattle.sets.specs.Set.{bit, has}
 use Rattle.sets.specs.Graph.{row}
 use Rattle.judging.specs.Graph.{adjacent}
 use Rattle.sheets.specs.Digits.{between, digitValue, isDigit, numberFrom, number}
 use Rattle.sheets.specs.Lines.{isLine, field, rightLines, numbers}
-use Rattle.sheets.specs.Sheet.{sheetText, sheet, sheetOf, headingCause, rowsCause, roomCause, headingCauses, bodyCauses, reading}
+use Rattle.sheets.specs.Sheet.{sheetText, sheet, sheetOf, headingCause, linesCause, roomCause, headingCauses, bodyCauses, sheetCauses, reading}
 use Rattle.sheets.specs.SheetLaws.{read-back}
 
--- five vertices in a ring, slack 2, floor 3, as document 01 writes it
+-- fourteen digits 0, and two more on a line
+abbrev pub low : ℕ → ℕ → List ℕ → List ℕ
+low a b rest = 48 ∷ 48 ∷ 48 ∷ 48 ∷ 48 ∷ 48 ∷ 48 ∷ 48 ∷ 48 ∷ 48 ∷ 48 ∷ 48 ∷ 48 ∷ 48 ∷ a ∷ b ∷ 10 ∷ rest
+
+-- five vertices, slack 2, floor 3, and then the lines below
+abbrev five : List ℕ → List ℕ
+five rest = 48 ∷ 53 ∷ 48 ∷ 50 ∷ 48 ∷ 51 ∷ 10 ∷ rest
+
+-- the rows 1 to 4 of a ring: 05, 0A, 14 and 09
+abbrev others : List ℕ
+others = low 48 53 (low 48 65 (low 49 52 (low 48 57 [])))
+
+-- the ring as document 01 writes it, with line 2; row 0 is 12
 unfoldable pub ring : List ℕ
-ring =
-    48 ∷ 53 ∷ 48 ∷ 50 ∷ 48 ∷ 51 ∷ 10
-    ∷ 48 ∷ 48 ∷ 48 ∷ 48 ∷ 48 ∷ 48 ∷ 48 ∷ 48 ∷ 48 ∷ 48 ∷ 48 ∷ 48 ∷ 48 ∷ 48 ∷ 49 ∷ 50 ∷ 10
-    ∷ 48 ∷ 48 ∷ 48 ∷ 48 ∷ 48 ∷ 48 ∷ 48 ∷ 48 ∷ 48 ∷ 48 ∷ 48 ∷ 48 ∷ 48 ∷ 48 ∷ 48 ∷ 53 ∷ 10
-    ∷ 48 ∷ 48 ∷ 48 ∷ 48 ∷ 48 ∷ 48 ∷ 48 ∷ 48 ∷ 48 ∷ 48 ∷ 48 ∷ 48 ∷ 48 ∷ 48 ∷ 48 ∷ 65 ∷ 10
-    ∷ 48 ∷ 48 ∷ 48 ∷ 48 ∷ 48 ∷ 48 ∷ 48 ∷ 48 ∷ 48 ∷ 48 ∷ 48 ∷ 48 ∷ 48 ∷ 48 ∷ 49 ∷ 52 ∷ 10
-    ∷ 48 ∷ 48 ∷ 48 ∷ 48 ∷ 48 ∷ 48 ∷ 48 ∷ 48 ∷ 48 ∷ 48 ∷ 48 ∷ 48 ∷ 48 ∷ 48 ∷ 48 ∷ 57 ∷ 10
-    ∷ []
+ring = five (low 48 48 (low 49 50 others))
 
-pub ring-read : reading ring 5 ≡ answered 0 (sheet (0x12 ∷ 0x05 ∷ 0x0A ∷ 0x14 ∷ 0x09 ∷ []) (request 2 3))
-unfolding ring reading headingCauses bodyCauses headingCause rowsCause roomCause sheetOf firstOf outside vertexCause slackCause floorCause badRow oneWay lowestRow rowCause edgeCause graphCauses from range all any first bit has row adjacent between digitValue isDigit numberFrom number isLine field rightLines numbers
-ring-read = refl
+abbrev ringRows : List ℕ
+ringRows = 0x12 ∷ 0x05 ∷ 0x0A ∷ 0x14 ∷ 0x09 ∷ []
 
-pub ring-written : ring ≡ sheetText (0x12 ∷ 0x05 ∷ 0x0A ∷ 0x14 ∷ 0x09 ∷ []) (request 2 3)
-ring-written = read-back ring 5 ring-read
+pub rings-read : (reading ring 5 ≡ answered 0 (sheet ringRows (request 2 3 0)))
+    -- vertex 1 is silent
+    × (reading (five (low 48 50 (low 49 50 others))) 5 ≡ answered 0 (sheet ringRows (request 2 3 0x02)))
+    -- vertex 5 is none of the graph, which is told before row 0, 13, that has its own bit
+    × (reading (five (low 50 48 (low 49 51 others))) 5 ≡ refused 7 0)
+    -- without line 2
+    × (reading (five (low 49 50 others)) 5 ≡ refused 8 7)
+unfolding ring reading sheetCauses headingCauses bodyCauses headingCause linesCause roomCause sheetOf firstOf outside vertexCause slackCause floorCause setCause badRow oneWay lowestRow rowCause edgeCause graphCauses from range all any first bit has row adjacent between digitValue isDigit numberFrom number isLine field rightLines numbers
+rings-read = (refl, refl, refl, refl)
+
+pub ring-written : ring ≡ sheetText ringRows (request 2 3 0)
+ring-written = read-back ring 5 (rings-read .0)
 
 pub empty-refused : (room : ℕ) → reading [] room ≡ refused 8 1
-unfolding reading headingCauses headingCause firstOf all isLine
+unfolding reading sheetCauses headingCauses headingCause firstOf all isLine
 empty-refused room = refl

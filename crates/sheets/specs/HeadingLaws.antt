@@ -1,80 +1,30 @@
 -- Line 1 as the code reads and fills it, and the definitions of it.
-use Prim.Native.Nat.{ℕ, _+_, _-_, _*_, _≤_}
+use Prim.Native.Nat.{ℕ, _+_, _≤_}
 use native.Mathlib.Omega.{arith}
-use mathlib.Core.Path.{_≡_, refl, sym, ap, ap₂, _∙_, subst}
-use mathlib.Core.Bool.{Bool, true, false}
+use mathlib.Core.Path.{_≡_, refl, sym, ap, ap₂, _∙_}
 use mathlib.Core.List.{List, [], _++_, append-assoc}
-use lib.Dec.{T}
 use lib.ListN.{length, getD, take, drop, set, length-append, length-drop}
 use lib.Seq.{drop-cons, drop-drop, drop-at, set-at, length-take-le}
 use Rattle.sets.specs.RangeLaws.{true-holds, all-part}
-use Rattle.judging.specs.Request.{Request, request}
-use Rattle.judging.specs.Refusal.{Reply, refused, answered, firstOf, mostVertices, mostSlack, outside, vertexCause, slackCause, floorCause}
-use Rattle.sheets.specs.Digits.{isDigit, digits, number}
-use Rattle.sheets.specs.Lines.{newline, isLine, field}
+use Rattle.judging.specs.Request.{Request}
+use Rattle.sheets.specs.Digits.{isDigit, digits}
+use Rattle.sheets.specs.Lines.{newline, isLine}
 use Rattle.sheets.specs.Sheet.{fieldDigits, headingDigits, headingLength, headingText}
-use Rattle.sheets.specs.Sheet.{vertexField, slackField, floorField, headingCause, headingCauses}
-use Rattle.sheets.specs.Calls.{Heading, heading, headingIn}
-use Rattle.sheets.specs.Setting.{Readable, HeadingField}
+use Rattle.sheets.specs.Setting.{Field, HeadingField}
 use Rattle.sheets.specs.DigitLaws.{digits-length}
-use Rattle.sheets.specs.LineLaws.{line-first, right-fits, right-digits, part-same, put-next}
+use Rattle.sheets.specs.LineLaws.{line-first, right-fits, right-digits, put-next}
 use Rattle.sheets.specs.SheetLaws.{fieldsText, fields-length, heading-length}
 
 -- ---- a field, as the code takes it
 
-module _ {at : ℕ} {t : List ℕ} (h : HeadingField at t) where
-  right-heading : T (isLine headingDigits t)
-  right-heading = true-holds (isLine headingDigits t) (h .right)
-
-  pub field-fits : at + fieldDigits ≤ length t
-  field-fits = omega (arith, h .inside, right-fits headingDigits t right-heading)
-
-  pub field-readable : Readable (take ((at + fieldDigits) - at) (drop at t))
-  field-readable =
-      subst (λ (u : List ℕ). Readable u) (sym (part-same at fieldDigits (drop at t)))
-      (record {
-        digit = all-part isDigit at fieldDigits headingDigits t (h .inside) (right-digits headingDigits t right-heading);
-        short = omega (arith, length-take-le fieldDigits (drop at t) (omega (arith, field-fits, length-drop at t)));
-      })
-
-  pub field-read : {x : ℕ} → x ≡ number (take ((at + fieldDigits) - at) (drop at t)) → x ≡ field at fieldDigits t
-  unfolding field
-  field-read e = e ∙ ap number (part-same at fieldDigits (drop at t))
-
--- ---- the tests of line 1, one after the other
-
-abbrev pub headingReply : List ℕ → Reply Heading
-headingReply t = firstOf (headingCauses t) (answered 0 (headingIn t))
-
-module _ (t : List ℕ) where
-  pub heading-refused : isLine headingDigits t ≡ false → refused 8 1 ≡ headingReply t
-  unfolding firstOf headingCauses headingCause
-  heading-refused e = rw e
-
-  module _ (right : isLine headingDigits t ≡ true) where
-    pub vertices-refused : outside 1 mostVertices (vertexField t) ≡ true → refused 1 0 ≡ headingReply t
-    unfolding firstOf headingCauses headingCause vertexCause
-    vertices-refused h = rw (right, h)
-
-    module _ (n-in : outside 1 mostVertices (vertexField t) ≡ false) where
-      pub slack-refused : outside 1 mostSlack (slackField t) ≡ true → refused 2 0 ≡ headingReply t
-      unfolding firstOf headingCauses headingCause vertexCause slackCause
-      slack-refused h = rw (right, n-in, h)
-
-      module _ (k-in : outside 1 mostSlack (slackField t) ≡ false) {k : ℕ} (slack : k ≡ slackField t) where
-        floor-test : (b : Bool) → outside (2 * k - 1) mostVertices (floorField t) ≡ b → outside (2 * slackField t - 1) mostVertices (floorField t) ≡ b
-        floor-test b h = ap (λ (x : ℕ). outside (2 * x - 1) mostVertices (floorField t)) (sym slack) ∙ h
-
-        pub floor-refused : outside (2 * k - 1) mostVertices (floorField t) ≡ true → refused 3 0 ≡ headingReply t
-        unfolding firstOf headingCauses headingCause vertexCause slackCause floorCause
-        floor-refused h = rw (right, n-in, k-in, floor-test true h)
-
-        pub heading-accepted : {n q : ℕ} → outside (2 * k - 1) mostVertices (floorField t) ≡ false → n ≡ vertexField t → q ≡ floorField t
-            → answered 0 (heading n (request k q)) ≡ headingReply t
-        unfolding firstOf headingCauses headingCause vertexCause slackCause floorCause
-        heading-accepted {n} {q} h e f =
-            rw (right, n-in, k-in, floor-test false h)
-            (ap (λ (x : ℕ). answered 0 (heading x (request k q))) e ∙ ap₂ (λ (x y : ℕ). answered 0 (heading (vertexField t) (request x y))) slack f)
+pub heading-field : {at : ℕ} {t : List ℕ} → HeadingField at t → Field at fieldDigits t
+heading-field {at} {t} h =
+    let right = true-holds (isLine headingDigits t) (h .right) in
+    record {
+      inside = omega (arith, h .inside, right-fits headingDigits t right);
+      digit = all-part isDigit at fieldDigits headingDigits t (h .inside) (right-digits headingDigits t right);
+      short = omega arith;
+    }
 
 -- ---- line 1 as the code fills it in: three fields, and then the byte at its end
 

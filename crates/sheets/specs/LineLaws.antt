@@ -18,8 +18,10 @@ use Rattle.sets.specs.Ranges.{all}
 use Rattle.sets.specs.RangeLaws.{and-left, and-right, both, is-true, is-false, true-holds}
 use Rattle.sheets.specs.Digits.{isDigit, digits, number}
 use Rattle.sheets.specs.DigitLaws.{digits-length, all-digits, number-digits, digits-number}
-use Rattle.sheets.specs.Lines.{newline, line, lines, isLine, rightLines, numbers}
+use Rattle.sheets.specs.Lines.{newline, line, lines, isLine, field, rightLines, numbers}
 use Rattle.sheets.specs.Sheet.{over}
+use Rattle.sheets.specs.Setting.{Readable, Field}
+use Rattle.sheets.specs.OverLaws.{over-both}
 
 -- ---- one line
 
@@ -86,14 +88,17 @@ lines-length w (x ∷ xs) =
     ∙ ap₂ _+_ (line-length (digits w x) ∙ ap suc (digits-length w x)) (lines-length w xs)
     ∙ add-comm (suc w) (length xs * suc w) ∙ sym (suc-mul (length xs) (suc w))
 
-pub lines-right : (w : ℕ) (xs t : List ℕ) → rightLines w (length xs) (lines w xs ++ t) ≡ length xs
+-- of m lines more than are laid out, the text behind them decides
+pub lines-right : (w m : ℕ) (xs t : List ℕ) → rightLines w (length xs + m) (lines w xs ++ t) ≡ length xs + rightLines w m t
 unfolding rightLines lines
-lines-right w [] t = refl
-lines-right w (x ∷ xs) t =
-    ap (λ (l : List ℕ). cond (isLine w l) (suc (rightLines w (length xs) (drop (suc w) l))) 0) (append-assoc (line (digits w x)) (lines w xs) t)
-    ∙ ap₂ (λ (b : Bool) (l : List ℕ). cond b (suc (rightLines w (length xs) l)) 0)
+lines-right w m [] t = simp zero-add
+lines-right w m (x ∷ xs) t =
+    let n = length xs + m in
+    ap (λ (k : ℕ). rightLines w k (lines w (x ∷ xs) ++ t)) (suc-add (length xs) m)
+    ∙ ap (λ (l : List ℕ). cond (isLine w l) (suc (rightLines w n (drop (suc w) l))) 0) (append-assoc (line (digits w x)) (lines w xs) t)
+    ∙ ap₂ (λ (b : Bool) (l : List ℕ). cond b (suc (rightLines w n l)) 0)
     (line-right w (digits w x) (lines w xs ++ t) (digits-length w x) (all-digits w x)) (line-drop w (digits w x) (lines w xs ++ t) (digits-length w x))
-    ∙ ap suc (lines-right w xs t)
+    ∙ ap suc (lines-right w m xs t) ∙ sym (suc-add (length xs) (rightLines w m t))
 
 pub lines-numbers : (w : ℕ) (xs t : List ℕ) → ((a : ℕ) → a < length xs → getD xs a 0 < 16 ^ w) → numbers w (length xs) (lines w xs ++ t) ≡ xs
 unfolding numbers lines
@@ -111,6 +116,11 @@ line-then-lines w a t = drop-drop (a * suc w) (suc w) t ∙ ap (λ (m : ℕ). dr
 
 lines-then-line : (w a : ℕ) (t : List ℕ) → drop (suc w) (drop (a * suc w) t) ≡ drop (suc a * suc w) t
 lines-then-line w a t = drop-drop (suc w) (a * suc w) t ∙ ap (λ (m : ℕ). drop m t) (sym (suc-mul a (suc w)))
+
+-- the number in line a + 1, and in line a of what stands below the first
+pub field-below : (w a : ℕ) (t : List ℕ) → field ((a + 1) * suc w) w t ≡ field (a * suc w) w (drop (suc w) t)
+unfolding field
+field-below w a t = rw (line-then-lines w a t, add-one a)
 
 -- of n + 1 lines that are right the first is, and so are the others
 right-split : (w n : ℕ) (t : List ℕ) → rightLines w (suc n) t ≡ suc n → T (isLine w t) × (rightLines w n (drop (suc w) t) ≡ n)
@@ -220,6 +230,16 @@ part-same i k t = ap (λ (m : ℕ). take m t) (add-sub-cancel-left i k)
 pub part-length : (i k : ℕ) (t : List ℕ) → i + k ≤ length t → length (take ((i + k) - i) (drop i t)) ≡ k
 part-length i k t h = ap length (part-same i k (drop i t)) ∙ length-take-le k (drop i t) (omega (arith, length-drop i t))
 
+module _ {at w : ℕ} {t : List ℕ} (h : Field at w t) where
+  pub field-readable : Readable (take ((at + w) - at) (drop at t))
+  field-readable =
+      subst (λ (u : List ℕ). Readable u) (sym (part-same at w (drop at t)))
+      (record { digit = h .digit; short = omega (arith, h .short, length-take-le w (drop at t) (omega (arith, h .inside, length-drop at t))) })
+
+  pub field-read : {x : ℕ} → x ≡ number (take ((at + w) - at) (drop at t)) → x ≡ field at w t
+  unfolding field
+  field-read e = e ∙ ap number (part-same at w (drop at t))
+
 -- a part p put behind what is done
 pub put-next : (i k : ℕ) (done rest p : List ℕ) → length done ≡ i
     → take i (done ++ rest) ++ (p ++ drop k (drop i (done ++ rest))) ≡ done ++ p ++ drop k rest
@@ -237,15 +257,15 @@ unfolding numbers
 storing-none = record { upto = omega arith; rows = refl }
 
 module _ {w : ℕ} {t ms us : List ℕ} {a : ℕ} (h : Storing w t ms us a) where
-  pub storing-more : {x : ℕ} {vs : List ℕ} → a < length ms → x ≡ number (take ((a * suc w + w) - a * suc w) (drop (a * suc w) t)) → vs ≡ set us a x
-      → Storing w t ms vs (a + 1)
+  pub storing-more : {x : ℕ} {vs : List ℕ} → a < length ms → x ≡ field (a * suc w) w t → vs ≡ set us a x → Storing w t ms vs (a + 1)
+  unfolding field
   storing-more {x} {vs} l f e =
       let y = number (take w (drop (a * suc w) t)) in
       let old : us ≡ numbers w a t ++ getD ms a 0 ∷ drop (suc a) ms = h .rows ∙ ap (λ (v : List ℕ). numbers w a t ++ v) (drop-cons ms a 0 l) in
       record {
         upto = omega arith;
         rows =
-            e ∙ ap₂ (λ (v : List ℕ) (z : ℕ). set v a z) old (f ∙ ap number (part-same (a * suc w) w (drop (a * suc w) t)))
+            e ∙ ap₂ (λ (v : List ℕ) (z : ℕ). set v a z) old f
             ∙ set-at (numbers w a t) (getD ms a 0) (drop (suc a) ms) y a (numbers-length w a t)
             ∙ sym (append-snoc (numbers w a t) y (drop (suc a) ms))
             ∙ ap (λ (u : List ℕ). u ++ drop (suc a) ms) (sym (numbers-next w a t))
@@ -298,6 +318,18 @@ module _ {w : ℕ} {ms t u : List ℕ} {a : ℕ} (h : Writing w ms t u a) where
       let e : a ≡ length ms = omega (arith, h .upto) in
       h .text ∙ ap (λ (m : ℕ). lines w (take m ms) ++ drop (m * suc w) t) e
       ∙ ap₂ (λ (v : List ℕ) (m : ℕ). lines w v ++ drop m t) (take-length ms) (sym (lines-length w ms))
+
+-- the line of x first, which leaves u, and then those of xs behind it
+pub lines-written : (w : ℕ) {x y : ℕ} (xs t : List ℕ) {u first rest : List ℕ} → suc w ≤ length t → y ≡ x
+    → first ≡ line (digits (length (take (suc w) t) - 1) y) → u ≡ first ++ drop (suc w) t
+    → rest ≡ over (lines w xs) (take (length u - suc w) (drop (suc w) u))
+    → take (suc w) u ++ (rest ++ drop (length u - suc w) (drop (suc w) u)) ≡ over (lines w (x ∷ xs)) t
+unfolding lines
+lines-written w {x} xs t l c e f h =
+    let places : length (take (suc w) t) - 1 ≡ w = omega (arith, length-take-le (suc w) t l) in
+    let one = e ∙ ap₂ (λ (m z : ℕ). line (digits m z)) places c in
+    let long : length (line (digits w x)) ≡ suc w = line-length (digits w x) ∙ ap suc (digits-length w x) in
+    over-both (line (digits w x)) (lines w xs) t long (f ∙ ap (λ (v : List ℕ). v ++ drop (suc w) t) one) h
 
 -- ---- one line as the code makes it, from position at on
 

@@ -4,40 +4,34 @@ use Prim.Native.Nat.{ℕ, _≤_}
 use native.Mathlib.Omega.{arith}
 use mathlib.Core.Path.{_≡_, refl, sym, ap, _∙_, subst}
 use mathlib.Core.List.{List, [], _∷_, _++_}
-use lib.ListN.{length, take}
+use lib.ListN.{length, take, drop}
 use Rattle.judging.specs.Request.{Request}
-use Rattle.judging.specs.Refusal.{Reply, answered, firstOf, vertexCause, slackCause, floorCause, graphCauses}
-use Rattle.judging.specs.Calls.{passed, requestCheck}
+use Rattle.judging.specs.Refusal.{Reply, answered, firstOf, vertexCause, slackCause, floorCause}
+use Rattle.judging.specs.Calls.{passed, numberCheck, requestCheck}
 use Rattle.judging.specs.RefusalLaws.{first-append, first-passed, answered-value}
-use Rattle.sheets.specs.Lines.{numbers}
-use Rattle.sheets.specs.Sheet.{rowDigits, sheetLength, sheetText, vertexField, slackField, floorField, body, Sheet, sheet, sheetOf}
-use Rattle.sheets.specs.Sheet.{roomCause, headingCauses, reading, writing, over, textAfter}
+use Rattle.sheets.specs.Sheet.{rowDigits, rowLength, sheetLength, sheetText, vertexField, slackField, floorField, body, Sheet, sheet, sheetOf}
+use Rattle.sheets.specs.Sheet.{fieldCauses, setCauses, roomCause, reading, writing, over, textAfter}
 use Rattle.sheets.specs.OverLaws.{over-front}
 use Rattle.sheets.specs.LineLaws.{numbers-length}
-use Rattle.sheets.specs.SheetLaws.{fieldCauses, passed-fields, passed-graph, belowCauses}
-use Rattle.sheets.specs.SheetLaws.{read-heading-passed, read-body-passed, read-answer, read-back, written-back}
+use Rattle.sheets.specs.SheetLaws.{passed-fields, passed-sets, passed-heading, passed-body}
+use Rattle.sheets.specs.SheetLaws.{read-passed, read-answer, read-back, written-back}
 use Rattle.sheets.specs.WriteLaws.{sheet-length, accepted-writes}
 
 -- ---- read, then write
 
 module _ (t : List ℕ) (room : ℕ) {v : ℕ} {s : Sheet} (e : reading t room ≡ answered v s) where
-  pub read-value : v ≡ 0
-  unfolding reading
-  read-value = answered-value (headingCauses t ++ belowCauses t room) 0 (sheetOf t) e
-
-  -- 1, 2 and 3 of line 1, 4 and 5 of the rows
+  -- 1, 2 and 3 of line 1, 7 of line 2, 4 and 5 of the rows
   pub read-accepted : firstOf (requestCheck (s .rows) (s .request)) passed ≡ passed
-  unfolding requestCheck sheetOf
+  unfolding requestCheck numberCheck sheetOf
   read-accepted =
       let n = vertexField t in
-      let k = slackField t in
-      let g = numbers rowDigits n (body t) in
+      let passes = read-passed t room e in
       subst (λ (x : Sheet). firstOf (requestCheck (x .rows) (x .request)) passed ≡ passed) (sym (read-answer t room e))
-      (subst (λ (m : ℕ). firstOf (vertexCause m ∷ slackCause k ∷ floorCause k (floorField t) ∷ graphCauses g) passed ≡ passed)
-      (sym (numbers-length rowDigits n (body t)))
-      (first-append (fieldCauses t) (graphCauses g) passed
-      ∙ first-passed (fieldCauses t) (firstOf (graphCauses g) passed) (passed-fields t (read-heading-passed t room e))
-      ∙ passed-graph n (body t) (read-body-passed t room e)))
+      (subst (λ (m : ℕ). firstOf (vertexCause m ∷ slackCause (slackField t) ∷ floorCause (slackField t) (floorField t) ∷ setCauses n (body t)) passed ≡ passed)
+      (sym (numbers-length rowDigits n (drop rowLength (body t))))
+      (first-append (fieldCauses t) (setCauses n (body t)) passed
+      ∙ first-passed (fieldCauses t) (firstOf (setCauses n (body t)) passed) (passed-fields t (passed-heading t passes))
+      ∙ passed-sets n (body t) (passed-body t passes)))
 
   read-length : length t ≡ sheetLength (length (s .rows))
   read-length = ap length (read-back t room e) ∙ sheet-length (s .rows) (s .request)

@@ -1,10 +1,12 @@
--- Sheets (document 01): the text of a graph with a request, and the reading of any bytes as one.
+-- Sheets (document 01, with line 2 of document 02, card 6): the text of a graph with a request, and the reading of any bytes as one.
 --
 --   headingText n ask    line 1
---   sheetText g ask      the sheet of the graph g with the slack and the floor of the request ask
+--   sheetText g ask      the sheet of the graph g with the request ask
 --   sheetLength n        the length of a sheet of n vertices
+--   formerText g ask     the sheet as it was without line 2
 --   vertexField t, ..    what line 1 of any text t says; body t is what stands below it
---   requestIn t          what line 1 of the text t asks
+--   silentIn, rowsIn     what it says there: the silent set in line 2, and the rows below that
+--   requestIn t          what lines 1 and 2 of the text t ask
 --   Sheet                what a sheet says: the rows of the graph, and the request
 --   reading t room       what reading the text t into room rows answers, by document 01's order for reading
 --   writing g ask room   what writing that sheet into room bytes answers
@@ -15,7 +17,8 @@ use mathlib.Core.List.{List, [], _∷_, _++_}
 use lib.Dec.{ltb}
 use lib.ListN.{length, drop}
 use Rattle.judging.specs.Request.{Request, request}
-use Rattle.judging.specs.Refusal.{Reply, refused, answered, Cause, cause, firstOf, mostVertices, vertexCause, slackCause, floorCause, graphCauses}
+use Rattle.judging.specs.Refusal.{Reply, refused, answered, Cause, cause, firstOf, mostVertices, vertexCause, slackCause, floorCause}
+use Rattle.judging.specs.Refusal.{graphCauses, setCause}
 use Rattle.judging.specs.Calls.{requestCheck}
 use Rattle.sheets.specs.Digits.{digits}
 use Rattle.sheets.specs.Lines.{line, lines, isLine, field, rightLines, numbers}
@@ -46,16 +49,20 @@ headingLength = headingDigits + 1
 abbrev pub rowLength : ℕ
 rowLength = rowDigits + 1
 
--- document 01: 7 + 17n
+-- line 1, line 2 and n rows; document 02: 24 + 17n
 abbrev pub sheetLength : ℕ → ℕ
-sheetLength n = headingLength + n * rowLength
+sheetLength n = headingLength + (n + 1) * rowLength
 
 unfoldable pub headingText : ℕ → Request → List ℕ
 headingText n ask = line (digits fieldDigits n ++ (digits fieldDigits (ask .slack) ++ digits fieldDigits (ask .floor)))
 
--- line 1, and then row after row, one row a line
+-- line 1, then the silent set, and then row after row, one a line
 unfoldable pub sheetText : List ℕ → Request → List ℕ
-sheetText g ask = headingText (length g) ask ++ lines rowDigits g
+sheetText g ask = headingText (length g) ask ++ lines rowDigits (ask .silent ∷ g)
+
+-- document 02: an old sheet, without line 2
+unfoldable pub formerText : List ℕ → Request → List ℕ
+formerText g ask = headingText (length g) ask ++ lines rowDigits g
 
 -- ---- what any text says
 
@@ -68,12 +75,19 @@ slackField t = field slackAt fieldDigits t
 abbrev pub floorField : List ℕ → ℕ
 floorField t = field floorAt fieldDigits t
 
-abbrev pub requestIn : List ℕ → Request
-requestIn t = request (slackField t) (floorField t)
-
 -- what stands below line 1
 abbrev pub body : List ℕ → List ℕ
 body t = drop headingLength t
+
+-- of what stands below line 1: the silent set in line 2 (document 02: the mask of silent stops), and the rows in the n lines below it
+abbrev pub silentIn : List ℕ → ℕ
+silentIn b = field 0 rowDigits b
+
+abbrev pub rowsIn : ℕ → List ℕ → List ℕ
+rowsIn n b = numbers rowDigits n (drop rowLength b)
+
+abbrev pub requestIn : List ℕ → Request
+requestIn t = request (slackField t) (floorField t) (silentIn (body t))
 
 pub record Sheet : Type 0 where
   pub rows : List ℕ
@@ -83,7 +97,7 @@ abbrev pub sheet : List ℕ → Request → Sheet
 sheet g ask = record { rows = g; request = ask }
 
 unfoldable pub sheetOf : List ℕ → Sheet
-sheetOf t = sheet (numbers rowDigits (vertexField t) (body t)) (requestIn t)
+sheetOf t = sheet (rowsIn (vertexField t) (body t)) (requestIn t)
 
 -- ---- the causes that sheets alone have
 
@@ -94,27 +108,37 @@ lineCause wrong l = cause wrong 8 l
 unfoldable pub headingCause : List ℕ → Cause
 headingCause t = lineCause (not (isLine headingDigits t)) 1
 
--- row a is line a + 2, and bytes after the n rows are line n + 2
-unfoldable pub rowsCause : ℕ → List ℕ → Cause
-rowsCause n t = let a = rightLines rowDigits n t in lineCause (ltb a n || ltb (n * rowLength) (length t)) (a + 2)
+-- m lines below line 1, the first of them line 2; bytes after them are line m + 2
+unfoldable pub linesCause : ℕ → List ℕ → Cause
+linesCause m b = let a = rightLines rowDigits m b in lineCause (ltb a m || ltb (m * rowLength) (length b)) (a + 2)
 
 -- a lent buffer of the length room is too short
 unfoldable pub roomCause : ℕ → ℕ → Cause
 roomCause room needed = cause (ltb room needed) 9 needed
 
--- ---- reading: line 1 by 8, then 1, 2, 3, the other lines by 8, then 4, 5, 9
+-- ---- reading: line 1 by 8, then 1, 2, 3, the other lines by 8, then 7 of the silent set, 4, 5, 9
+
+abbrev pub fieldCauses : List ℕ → List Cause
+fieldCauses t = vertexCause (vertexField t) ∷ slackCause (slackField t) ∷ floorCause (slackField t) (floorField t) ∷ []
 
 unfoldable pub headingCauses : List ℕ → List Cause
-headingCauses t = headingCause t ∷ vertexCause (vertexField t) ∷ slackCause (slackField t) ∷ floorCause (slackField t) (floorField t) ∷ []
+headingCauses t = headingCause t ∷ fieldCauses t
 
+-- the silent set, and then the rows
+abbrev pub setCauses : ℕ → List ℕ → List Cause
+setCauses n b = setCause (rowsIn n b) (silentIn b) ∷ graphCauses (rowsIn n b)
+
+-- line 2 and n rows: row a is line a + 3, and bytes after the last one are line n + 3
 unfoldable pub bodyCauses : ℕ → List ℕ → List Cause
-bodyCauses n t = rowsCause n t ∷ graphCauses (numbers rowDigits n t)
+bodyCauses n b = linesCause (n + 1) b ∷ setCauses n b
+
+unfoldable pub sheetCauses : List ℕ → List Cause
+sheetCauses t = headingCauses t ++ bodyCauses (vertexField t) (body t)
 
 unfoldable pub reading : List ℕ → ℕ → Reply Sheet
-reading t room =
-    firstOf (headingCauses t ++ (bodyCauses (vertexField t) (body t) ++ roomCause room (vertexField t) ∷ [])) (answered 0 (sheetOf t))
+reading t room = firstOf (sheetCauses t ++ roomCause room (vertexField t) ∷ []) (answered 0 (sheetOf t))
 
--- ---- writing: 1, 2, 3, 4, 5, 9
+-- ---- writing: 1, 2, 3, 7, 4, 5, 9
 
 unfoldable pub writing : List ℕ → Request → ℕ → Reply (Unit {0})
 writing g ask room =

@@ -1,29 +1,31 @@
 -- Laws of sheets: what was written reads back as it was, and a sheet that is read is written back byte by byte.
-use Prim.Native.Nat.{ℕ, _+_, _*_, _^_, _≤_, _<_}
-use native.Mathlib.Nat.{lt-of-lt-of-le}
+use Prim.Native.Nat.{ℕ, zero, suc, _+_, _*_, _^_, _≤_, _<_}
+use native.Mathlib.Nat.{lt-of-lt-of-le, le-of-suc-le-suc, add-zero}
 use native.Mathlib.Omega.{arith}
-use mathlib.Core.Path.{_≡_, refl, sym, ap, ap₂, _∙_, subst}
+use native.Mathlib.Numerals.{add-one}
+use mathlib.Core.Path.{_≡_, refl, sym, ap, ap₂, _∙_}
 use mathlib.Core.Bool.{Bool, true, false, _||_}
 use mathlib.Core.List.{List, [], _∷_, _++_, append-assoc, append-nil}
 use lib.Dec.{T, ltb}
-use borrow.Author.Tests.{ltb-false, le-ltb, not-false}
+use borrow.Author.Tests.{ltb-false, lt-ltb, le-ltb, not-false}
 use lib.Pow.{pow-mono}
-use lib.ListN.{length, take, drop, length-append, length-drop, drop-of-length-le}
+use lib.ListN.{length, getD, take, drop, length-append, length-drop, drop-of-length-le}
 use lib.Seq.{take-at, drop-at, take-add, drop-drop, length-take-le}
 use Rattle.sets.specs.Ranges.{all}
 use Rattle.sets.specs.RangeLaws.{true-holds, all-append, all-part}
 use Rattle.sets.specs.Graph.{row}
-use Rattle.judging.specs.Request.{Request}
-use Rattle.judging.specs.Refusal.{mostVertices, answered, Cause, firstOf, vertexCause, slackCause, floorCause, graphCauses}
-use Rattle.judging.specs.Calls.{passed, requestCheck}
-use Rattle.judging.specs.RefusalLaws.{first-append, first-skips, first-passed, answered-passed, answered-found}
+use Rattle.judging.specs.Request.{Request, request}
+use Rattle.judging.specs.Refusal.{mostVertices, refused, answered, Cause, firstOf, vertexCause, slackCause, floorCause, graphCauses}
+use Rattle.judging.specs.Calls.{passed, numberCheck, floorCheck, requestCheck}
+use Rattle.judging.specs.RefusalLaws.{first-append, first-holds, first-skips, first-passed, answered-passed, answered-value, answered-found}
 use Rattle.judging.specs.RefusalLaws.{passed-head, passed-tail, passed-front, passed-back}
-use Rattle.judging.specs.RefusalLaws.{vertices-accepted, graph-checked, slack-accepted, slack-graph, request-slack, floor-accepted}
+use Rattle.judging.specs.RefusalLaws.{vertices-accepted, graph-checked, slack-accepted, slack-graph, floor-slack, floor-accepted}
+use Rattle.judging.specs.RefusalLaws.{request-floor, silent-accepted}
 use Rattle.sheets.specs.Digits.{isDigit, digits, number}
 use Rattle.sheets.specs.Lines.{newline, line, lines, isLine, field, rightLines, numbers}
-use Rattle.sheets.specs.Sheet.{headingDigits, rowDigits, rowLength, sheetLength, headingText, sheetText}
-use Rattle.sheets.specs.Sheet.{vertexField, slackField, floorField, requestIn, body, Sheet, sheet, sheetOf}
-use Rattle.sheets.specs.Sheet.{headingCause, rowsCause, roomCause, headingCauses, bodyCauses, reading, writing}
+use Rattle.sheets.specs.Sheet.{headingDigits, rowDigits, rowLength, sheetLength, headingText, sheetText, formerText}
+use Rattle.sheets.specs.Sheet.{vertexField, slackField, floorField, body, silentIn, rowsIn, requestIn, Sheet, sheet, sheetOf}
+use Rattle.sheets.specs.Sheet.{headingCause, linesCause, roomCause, fieldCauses, headingCauses, setCauses, bodyCauses, sheetCauses, reading, writing}
 use Rattle.sheets.specs.DigitLaws.{digits-length, all-digits, number-digits, digits-number}
 use Rattle.sheets.specs.LineLaws.{line-length, line-drop, line-right, right-digits, right-fits, right-line, right-lines, right-most}
 use Rattle.sheets.specs.LineLaws.{lines-length, lines-right, lines-numbers, numbers-length}
@@ -56,32 +58,40 @@ heading-back t e =
 
 -- ---- the lines below line 1
 
--- rows that are right with nothing after them
-pub rows-clear : (n : ℕ) (t : List ℕ) → rowsCause n t .holds ≡ false → (rightLines rowDigits n t ≡ n) × (length t ≤ n * rowLength)
-unfolding rowsCause
-rows-clear n t e = go (ltb (rightLines rowDigits n t) n) (ltb (n * rowLength) (length t)) refl refl e
-  where
-    go : (a b : Bool) → ltb (rightLines rowDigits n t) n ≡ a → ltb (n * rowLength) (length t) ≡ b → (a || b) ≡ false
-        → (rightLines rowDigits n t ≡ n) × (length t ≤ n * rowLength)
-    go true b p q e = let z : _≡_ {A = ℕ} 0 1 = cc in absurd (omega arith)
-    go false b p q e =
-        (omega (arith, ltb-false (rightLines rowDigits n t) n p, right-most rowDigits n t), ltb-false (n * rowLength) (length t) (q ∙ e))
+-- m lines that are right with nothing after them
+module _ (m : ℕ) (t : List ℕ) where
+  pub lines-clear : linesCause m t .holds ≡ false → (rightLines rowDigits m t ≡ m) × (length t ≤ m * rowLength)
+  unfolding linesCause
+  lines-clear e = go (ltb (rightLines rowDigits m t) m) (ltb (m * rowLength) (length t)) refl refl e
+    where
+      go : (a b : Bool) → ltb (rightLines rowDigits m t) m ≡ a → ltb (m * rowLength) (length t) ≡ b → (a || b) ≡ false
+          → (rightLines rowDigits m t ≡ m) × (length t ≤ m * rowLength)
+      go true b p q e = let z : _≡_ {A = ℕ} 0 1 = cc in absurd (omega arith)
+      go false b p q e =
+          (omega (arith, ltb-false (rightLines rowDigits m t) m p, right-most rowDigits m t), ltb-false (m * rowLength) (length t) (q ∙ e))
 
-pub clear-rows : (n : ℕ) (t : List ℕ) → rightLines rowDigits n t ≡ n → length t ≤ n * rowLength → rowsCause n t .holds ≡ false
-unfolding rowsCause
-clear-rows n t e l = ap₂ _||_ (le-ltb (rightLines rowDigits n t) n (omega arith)) (le-ltb (n * rowLength) (length t) l)
+  pub clear-lines : rightLines rowDigits m t ≡ m → length t ≤ m * rowLength → linesCause m t .holds ≡ false
+  unfolding linesCause
+  clear-lines e l = ap₂ _||_ (le-ltb (rightLines rowDigits m t) m (omega arith)) (le-ltb (m * rowLength) (length t) l)
 
-rows-back : (n : ℕ) (t : List ℕ) → rowsCause n t .holds ≡ false → t ≡ lines rowDigits (numbers rowDigits n t)
-rows-back n t e =
-    let r = rows-clear n t e in
-    right-lines rowDigits n t (r .0)
-    ∙ ap (λ (l : List ℕ). lines rowDigits (numbers rowDigits n t) ++ l) (drop-of-length-le t (r .1))
-    ∙ append-nil (lines rowDigits (numbers rowDigits n t))
+  -- one of them is wrong
+  pub wrong-line : rightLines rowDigits m t < m → linesCause m t .holds ≡ true
+  unfolding linesCause
+  wrong-line l = ap (λ (b : Bool). b || ltb (m * rowLength) (length t)) (lt-ltb (rightLines rowDigits m t) m l)
 
--- ---- what passes: line 1 by its layout and then by its fields, what is below it by its lines and then by its rows
+  lines-back : linesCause m t .holds ≡ false → t ≡ lines rowDigits (numbers rowDigits m t)
+  lines-back e =
+      let r = lines-clear e in
+      right-lines rowDigits m t (r .0)
+      ∙ ap (λ (l : List ℕ). lines rowDigits (numbers rowDigits m t) ++ l) (drop-of-length-le t (r .1))
+      ∙ append-nil (lines rowDigits (numbers rowDigits m t))
 
-abbrev pub fieldCauses : List ℕ → List Cause
-fieldCauses t = vertexCause (vertexField t) ∷ slackCause (slackField t) ∷ floorCause (slackField t) (floorField t) ∷ []
+-- the first of them is line 2, and the others are the rows
+body-back : (n : ℕ) (t : List ℕ) → linesCause (n + 1) t .holds ≡ false → t ≡ lines rowDigits (silentIn t ∷ rowsIn n t)
+unfolding numbers field
+body-back n t e = lines-back (n + 1) t e ∙ ap (λ (m : ℕ). lines rowDigits (numbers rowDigits m t)) (add-one n)
+
+-- ---- what passes: line 1 by its layout and then by its fields, what is below it by its lines, and then by the silent set and the rows
 
 module _ (t : List ℕ) (e : firstOf (headingCauses t) passed ≡ passed) where
   pub passed-line : isLine headingDigits t ≡ true
@@ -93,46 +103,50 @@ module _ (t : List ℕ) (e : firstOf (headingCauses t) passed ≡ passed) where
   passed-fields = passed-tail (headingCause t) (fieldCauses t) e
 
 module _ (n : ℕ) (t : List ℕ) (e : firstOf (bodyCauses n t) passed ≡ passed) where
-  pub passed-rows : rowsCause n t .holds ≡ false
+  pub passed-lines : linesCause (n + 1) t .holds ≡ false
   unfolding bodyCauses
-  passed-rows = passed-head (rowsCause n t) (graphCauses (numbers rowDigits n t)) e
+  passed-lines = passed-head (linesCause (n + 1) t) (setCauses n t) e
 
-  pub passed-graph : firstOf (graphCauses (numbers rowDigits n t)) passed ≡ passed
+  pub passed-sets : firstOf (setCauses n t) passed ≡ passed
   unfolding bodyCauses
-  passed-graph = passed-tail (rowsCause n t) (graphCauses (numbers rowDigits n t)) e
+  passed-sets = passed-tail (linesCause (n + 1) t) (setCauses n t) e
+
+module _ (t : List ℕ) (e : firstOf (sheetCauses t) passed ≡ passed) where
+  pub passed-heading : firstOf (headingCauses t) passed ≡ passed
+  unfolding sheetCauses
+  passed-heading = passed-front (headingCauses t) (bodyCauses (vertexField t) (body t)) e
+
+  pub passed-body : firstOf (bodyCauses (vertexField t) (body t)) passed ≡ passed
+  unfolding sheetCauses
+  passed-body = passed-back (headingCauses t) (bodyCauses (vertexField t) (body t)) e
 
 -- ---- a sheet that is read is written back byte by byte
 
--- what is judged once line 1 has passed
-abbrev pub belowCauses : List ℕ → ℕ → List Cause
-belowCauses t room = bodyCauses (vertexField t) (body t) ++ roomCause room (vertexField t) ∷ []
-
 -- of a text that is read none of the causes holds, and it says what is answered
 module _ (t : List ℕ) (room : ℕ) {v : ℕ} {s : Sheet} (e : reading t room ≡ answered v s) where
-  read-passed : firstOf (headingCauses t ++ belowCauses t room) passed ≡ passed
+  abbrev causes : List Cause
+  causes = sheetCauses t ++ roomCause room (vertexField t) ∷ []
+
+  pub read-passed : firstOf (sheetCauses t) passed ≡ passed
   unfolding reading
-  read-passed = answered-passed (headingCauses t ++ belowCauses t room) 0 v (sheetOf t) s e
+  read-passed = passed-front (sheetCauses t) (roomCause room (vertexField t) ∷ []) (answered-passed causes 0 v (sheetOf t) s e)
 
-  pub read-heading-passed : firstOf (headingCauses t) passed ≡ passed
-  read-heading-passed = passed-front (headingCauses t) (belowCauses t room) read-passed
-
-  pub read-body-passed : firstOf (bodyCauses (vertexField t) (body t)) passed ≡ passed
-  read-body-passed =
-      passed-front (bodyCauses (vertexField t) (body t)) (roomCause room (vertexField t) ∷ [])
-      (passed-back (headingCauses t) (belowCauses t room) read-passed)
+  pub read-value : v ≡ 0
+  unfolding reading
+  read-value = answered-value causes 0 (sheetOf t) e
 
   pub read-answer : s ≡ sheetOf t
   unfolding reading
-  read-answer = answered-found (headingCauses t ++ belowCauses t room) 0 (sheetOf t) e
+  read-answer = answered-found causes 0 (sheetOf t) e
 
   pub read-back : t ≡ sheetText (s .rows) (s .request)
   unfolding sheetText sheetOf
   read-back =
       let n = vertexField t in
-      let g = numbers rowDigits n (body t) in
-      heading-back t (passed-line t read-heading-passed)
-      ∙ ap (λ (l : List ℕ). headingText n (requestIn t) ++ l) (rows-back n (body t) (passed-rows n (body t) read-body-passed))
-      ∙ ap (λ (m : ℕ). headingText m (requestIn t) ++ lines rowDigits g) (sym (numbers-length rowDigits n (body t)))
+      let g = rowsIn n (body t) in
+      heading-back t (passed-line t (passed-heading t read-passed))
+      ∙ ap (λ (l : List ℕ). headingText n (requestIn t) ++ l) (body-back n (body t) (passed-lines n (body t) (passed-body t read-passed)))
+      ∙ ap (λ (m : ℕ). headingText m (requestIn t) ++ lines rowDigits (silentIn (body t) ∷ g)) (sym (numbers-length rowDigits n (drop rowLength (body t))))
       ∙ ap (λ (x : Sheet). sheetText (x .rows) (x .request)) (sym read-answer)
 
 -- ---- what was written reads back as it was
@@ -198,39 +212,66 @@ module _ (n : ℕ) (ask : Request) (t : List ℕ) where
   unfolding headingText
   heading-body = line-drop 6 (fieldsText n ask) t (fields-length n ask)
 
--- the answer to a text whose lines are right, by what it says
-reading-by : (t : List ℕ) (room n : ℕ) (ask : Request) (g : List ℕ) → isLine headingDigits t ≡ true → vertexField t ≡ n
-    → slackField t ≡ ask .slack → floorField t ≡ ask .floor → rowsCause n (body t) .holds ≡ false → numbers rowDigits n (body t) ≡ g
-    → reading t room
-    ≡ firstOf (vertexCause n ∷ slackCause (ask .slack) ∷ floorCause (ask .slack) (ask .floor) ∷ graphCauses g ++ roomCause room n ∷ [])
-    (answered 0 (sheet g ask))
-unfolding reading headingCauses bodyCauses headingCause sheetOf firstOf graphCauses
-reading-by t room n ask g e en ek eq er eg = rw (e, en, ek, eq, er, eg)
+  -- the answer, once line 1 is right and says n, k and q
+  reading-by : (room : ℕ) → n < 256 → ask .slack < 256 → ask .floor < 256
+      → reading (headingText n ask ++ t) room
+      ≡ firstOf (vertexCause n ∷ slackCause (ask .slack) ∷ floorCause (ask .slack) (ask .floor) ∷ [])
+      (firstOf (bodyCauses n t ++ roomCause room n ∷ []) (answered 0 (sheet (rowsIn n t) (request (ask .slack) (ask .floor) (silentIn t)))))
+  unfolding reading sheetCauses headingCauses headingCause sheetOf firstOf
+  reading-by room hn hk hq = rw (heading-right, vertex-field hn, slack-field hk, floor-field hq, heading-body)
+
+-- what is read of the lines of z and of the rows g
+module _ (z : ℕ) (g : List ℕ) where
+  written-clear : linesCause (length g + 1) (lines rowDigits (z ∷ g)) .holds ≡ false
+  unfolding rightLines
+  written-clear =
+      let t = lines rowDigits (z ∷ g) in
+      clear-lines (length g + 1) t (rw (add-one (length g), ← append-nil t) (rw add-zero at (lines-right rowDigits 0 (z ∷ g) [])))
+      (omega (arith, lines-length rowDigits (z ∷ g)))
+
+  written-sets : z < 16 ^ rowDigits → ((a : ℕ) → a < length g → getD g a 0 < 16 ^ rowDigits)
+      → silentIn (lines rowDigits (z ∷ g)) ∷ rowsIn (length g) (lines rowDigits (z ∷ g)) ≡ z ∷ g
+  unfolding numbers field
+  written-sets h low =
+      ap (numbers rowDigits (suc (length g))) (sym (append-nil (lines rowDigits (z ∷ g)))) ∙ lines-numbers rowDigits (z ∷ g) [] fits
+    where
+      fits : (a : ℕ) → a < suc (length g) → getD (z ∷ g) a 0 < 16 ^ rowDigits
+      fits zero l = h
+      fits (suc a) l = low a (le-of-suc-le-suc l)
 
 pub reads-written : (g : List ℕ) (ask : Request) (room : ℕ) → length g < 256 → ask .slack < 256 → ask .floor < 256
-    → ((a : ℕ) → a < length g → row g a < 16 ^ rowDigits)
+    → ask .silent < 16 ^ rowDigits → ((a : ℕ) → a < length g → row g a < 16 ^ rowDigits)
     → reading (sheetText g ask) room ≡ firstOf (requestCheck g ask ++ roomCause room (length g) ∷ []) (answered 0 (sheet g ask))
-unfolding sheetText requestCheck row
-reads-written g ask room hn hk hq low =
-    let t = lines rowDigits g in
-    let n = length g in
-    let whole = sym (append-nil (lines rowDigits g)) in
-    let under = heading-body n ask t in
-    reading-by (headingText n ask ++ t) room n ask g (heading-right n ask t) (vertex-field n ask t hn) (slack-field n ask t hk) (floor-field n ask t hq)
-    (subst (λ (l : List ℕ). rowsCause n l .holds ≡ false) (sym under)
-    (clear-rows n t (ap (rightLines rowDigits n) whole ∙ lines-right rowDigits g []) (omega (arith, lines-length rowDigits g))))
-    (ap (numbers rowDigits n) (under ∙ whole) ∙ lines-numbers rowDigits g [] low)
+unfolding sheetText requestCheck numberCheck bodyCauses firstOf row
+reads-written g ask room hn hk hq hs low =
+    let t = lines rowDigits (ask .silent ∷ g) in
+    let both = written-sets (ask .silent) g hs low in
+    let silent : silentIn t ≡ ask .silent = cc in
+    let rows : rowsIn (length g) t ≡ g = cc in
+    reading-by (length g) ask t room hn hk hq ∙ rw (written-clear (ask .silent) g, silent, rows)
+
+-- ---- what passed is read back: line 1 has room for its numbers, and each line for its set
+
+module _ (g : List ℕ) (k q : ℕ) (e : firstOf (floorCheck g k q) passed ≡ passed) where
+  field-fits : (length g < 256) × (k < 256) × (q < 256)
+  field-fits =
+      let slack = floor-slack g k q e in
+      let n = vertices-accepted g (slack-graph g k slack) in
+      let k-in = slack-accepted g k slack in
+      let q-in = floor-accepted g k q e in
+      (omega arith, omega arith, omega arith)
 
 pub accepted-back : (g : List ℕ) (ask : Request) (room : ℕ) → firstOf (requestCheck g ask) passed ≡ passed → length g ≤ room
     → reading (sheetText g ask) room ≡ answered 0 (sheet g ask)
 unfolding roomCause firstOf
 accepted-back g ask room e l =
-    let checked = slack-graph g (ask .slack) (request-slack g ask e) in
-    let n = vertices-accepted g checked in
-    let slack = slack-accepted g (ask .slack) (request-slack g ask e) in
-    let floor = floor-accepted g ask e in
-    reads-written g ask room (omega (arith, n)) (omega arith) (omega arith)
-    (λ a h. lt-of-lt-of-le (graph-checked g checked .low a h) (pow-mono {i = length g} {j = mostVertices} (n .1)))
+    let k = ask .slack in
+    let floor = request-floor g ask e in
+    let f = field-fits g k (ask .floor) floor in
+    let checked = slack-graph g k (floor-slack g k (ask .floor) floor) in
+    let most : 2 ^ length g ≤ 2 ^ mostVertices = pow-mono {i = length g} {j = mostVertices} (vertices-accepted g checked .1) in
+    reads-written g ask room (f .0) (f .1) (f .2) (lt-of-lt-of-le (silent-accepted g ask e) most)
+    (λ a h. lt-of-lt-of-le (graph-checked g checked .low a h) most)
     ∙ first-append (requestCheck g ask) (roomCause room (length g) ∷ []) (answered 0 (sheet g ask))
     ∙ first-passed (requestCheck g ask) (firstOf (roomCause room (length g) ∷ []) (answered 0 (sheet g ask))) e
     ∙ first-skips (roomCause room (length g)) [] (answered 0 (sheet g ask)) (le-ltb room (length g) l)
@@ -241,3 +282,24 @@ unfolding writing
 written-back g ask bytes rows v e l =
     let needed = roomCause bytes (sheetLength (length g)) ∷ [] in
     accepted-back g ask rows (passed-front (requestCheck g ask) needed (answered-passed (requestCheck g ask ++ needed) (sheetLength (length g)) v tt tt e)) l
+
+-- ---- a good sheet without line 2 is refused at the line behind its last one, whatever the room (document 02)
+
+-- one line more than the rows is missing
+former-right : (g : List ℕ) → rightLines rowDigits (length g + 1) (lines rowDigits g) ≡ length g
+unfolding rightLines isLine all
+former-right g =
+    ap (rightLines rowDigits (length g + 1)) (sym (append-nil (lines rowDigits g))) ∙ lines-right rowDigits 1 g [] ∙ add-zero (length g)
+
+pub former-refused : (g : List ℕ) (ask : Request) (room : ℕ) → firstOf (floorCheck g (ask .slack) (ask .floor)) passed ≡ passed
+    → reading (formerText g ask) room ≡ refused 8 (length g + 2)
+unfolding formerText floorCheck numberCheck bodyCauses linesCause
+former-refused g ask room e =
+    let n = length g in
+    let t = lines rowDigits g in
+    let fields = numberCheck g (ask .slack) (ask .floor) in
+    let f = field-fits g (ask .slack) (ask .floor) e in
+    reading-by n ask t room (f .0) (f .1) (f .2)
+    ∙ first-passed fields _ (passed-front fields (graphCauses g) e)
+    ∙ first-holds (linesCause (n + 1) t) _ _ (wrong-line (n + 1) t (omega (arith, former-right g)))
+    ∙ ap (λ (a : ℕ). refused 8 (a + 2)) (former-right g)

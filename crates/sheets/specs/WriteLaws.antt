@@ -1,7 +1,7 @@
 -- Writing: from what the code wrote to the reply and the text of the definition.
 use Prim.Native.Nat.{ℕ, _+_, _-_, _≤_, _<_}
 use native.Mathlib.Omega.{arith}
-use mathlib.Core.Path.{_≡_, sym, ap, ap₂, _∙_}
+use mathlib.Core.Path.{_≡_, sym, ap, _∙_}
 use mathlib.Core.List.{List, [], _∷_, _++_}
 use borrow.Author.Tests.{lt-ltb, le-ltb}
 use borrow.Rule.Slice.PartAt.{part-to-end}
@@ -27,7 +27,9 @@ use Rattle.sheets.specs.SheetLaws.{heading-length}
 pub sheet-length : (g : List ℕ) (ask : Request) → length (sheetText g ask) ≡ sheetLength (length g)
 unfolding sheetText
 sheet-length g ask =
-    length-append (headingText (length g) ask) (lines rowDigits g) ∙ ap₂ _+_ (heading-length (length g) ask) (lines-length rowDigits g)
+    let below = ask .silent ∷ g in
+    length-append (headingText (length g) ask) (lines rowDigits below)
+    ∙ omega (arith, heading-length (length g) ask, lines-length rowDigits below)
 
 -- what is left behind line 1
 pub below-fits : (m : ℕ) (u : List ℕ) → headingLength + m ≤ length u → m ≤ length (take (length u - headingLength) (drop headingLength u))
@@ -73,9 +75,9 @@ module _ (g : List ℕ) (ask : Request) (e : firstOf (requestCheck g ask) passed
       (room-left (length t) c
       ∙ first-holds (roomCause (length t) (sheetLength n)) [] (answered (sheetLength n) tt) (lt-ltb (length t) (sheetLength n) l))
 
-  -- what the code writes: line 1 first, which leaves u, and then the rows behind it
+  -- what the code writes: line 1 first, which leaves u, and then the silent set and the rows behind it
   pub text-written : {t u p : List ℕ} {n : ℕ} → n ≡ length g → sheetLength n ≤ length t → u ≡ headingText n ask ++ drop headingLength t
-      → p ≡ over (lines rowDigits g) (take (length u - headingLength) (drop headingLength u))
+      → p ≡ over (lines rowDigits (ask .silent ∷ g)) (take (length u - headingLength) (drop headingLength u))
       → WroteSheet g ask t (take headingLength u ++ (p ++ drop (length u - headingLength) (drop headingLength u))) (Written (sheetLength n))
   unfolding sheetText
   text-written {t} c l a b =
@@ -84,6 +86,6 @@ module _ (g : List ℕ) (ask : Request) (e : firstOf (requestCheck g ask) passed
       record {
         reply = sym answer;
         text =
-            over-both (headingText (length g) ask) (lines rowDigits g) t (heading-length (length g) ask) first b
+            over-both (headingText (length g) ask) (lines rowDigits (ask .silent ∷ g)) t (heading-length (length g) ask) first b
             ∙ sym (ap (λ (x : Reply (Unit {0})). textAfter x (sheetText g ask) t) answer);
       }

@@ -4,24 +4,24 @@ ghost use mathlib.Core.List.{_++_};
 ghost use Prim.Native.Nat.{_≤_};
 ghost use lib.ListN.{length, drop};
 ghost use Rattle.judging.specs.Request.{asked};
-ghost use Rattle.judging.specs.Refusal.{answered, firstOf};
+ghost use Rattle.judging.specs.Refusal.{firstOf};
+ghost use Rattle.judging.specs.Calls.{passed, checkedReply};
 ghost use Rattle.sheets.specs.Lines.{field};
 ghost use Rattle.sheets.specs.Sheet.{fieldDigits, headingLength, headingText, headingCauses};
-ghost use Rattle.sheets.specs.Calls.{readReply, headingIn};
 ghost use Rattle.sheets.specs.Setting.{HeadingField};
-use crate::SheetRead;
 use crate::digits;
 use crate::lines;
+use judging::Checked;
 use judging::Refusal;
 use judging::Request;
 use judging::check;
 
 // Where each field starts, and how long it is.
-const VERTICES_AT: usize = 0;
+pub const VERTICES_AT: usize = 0;
 
-const SLACK_AT: usize = 2;
+pub const SLACK_AT: usize = 2;
 
-const FLOOR_AT: usize = 4;
+pub const FLOOR_AT: usize = 4;
 
 const FIELD_DIGITS: usize = 2;
 
@@ -30,37 +30,31 @@ const HEADING_DIGITS: usize = 6;
 pub const HEADING_LENGTH: usize = 7;
 
 // The number in the field at the position `at` of line 1.
-fn field(text: &[u8], at: usize) -> usize
+pub fn field(text: &[u8], at: usize) -> usize
     requires { ⌜ HeadingField at (now text) ⌝ }
     ensures { λ r. ⌜ r ≡ field at fieldDigits (now (text .entry)) ⌝ }
 {
-    let end = at + FIELD_DIGITS;
-    digits::number(&text[at..end]) as usize
+    lines::field(text, at, FIELD_DIGITS) as usize
 }
 
-// Reads line 1. Refusals: 8 at line 1, 1, 2, 3.
-pub fn read_heading(text: &[u8]) -> SheetRead
-    ensures { λ r. ⌜ readReply r ≡ firstOf (headingCauses (now (text .entry))) (answered 0 (headingIn (now (text .entry)))) ⌝ }
+// Judges line 1. Refusals: 8 at line 1, 1, 2, 3.
+pub fn check_heading(text: &[u8]) -> Checked
+    ensures { λ r. ⌜ checkedReply r ≡ firstOf (headingCauses (now (text .entry))) passed ⌝ }
 {
     if !lines::is_line(text, 0, HEADING_DIGITS) {
-        return SheetRead::Refused(Refusal::Line(1));
+        return Checked::Failed(Refusal::Line(1));
     }
-    let n = field(text, VERTICES_AT);
-    if !check::vertices_accepted(n) {
-        return SheetRead::Refused(Refusal::Vertices);
+    if !check::vertices_accepted(field(text, VERTICES_AT)) {
+        return Checked::Failed(Refusal::Vertices);
     }
     let k = field(text, SLACK_AT);
     if !check::slack_accepted(k) {
-        return SheetRead::Refused(Refusal::Slack);
+        return Checked::Failed(Refusal::Slack);
     }
-    let q = field(text, FLOOR_AT);
-    if !check::floor_accepted(k, q) {
-        return SheetRead::Refused(Refusal::Floor);
+    if !check::floor_accepted(k, field(text, FLOOR_AT)) {
+        return Checked::Failed(Refusal::Floor);
     }
-    SheetRead::Read {
-        vertices: n,
-        request: Request { slack: k, floor: q },
-    }
+    Checked::Passed
 }
 
 // Writes line 1 to the front of the text.

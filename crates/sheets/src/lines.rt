@@ -4,8 +4,9 @@ ghost use Prim.Native.Nat.{_+_, _-_, _*_, _^_, _≤_, _<_};
 ghost use lib.ListN.{length, drop};
 ghost use Rattle.sets.specs.Words.{mask, masks};
 ghost use Rattle.sheets.specs.Digits.{wordDigits, digits};
-ghost use Rattle.sheets.specs.Lines.{line, lines, isLine};
+ghost use Rattle.sheets.specs.Lines.{line, lines, isLine, field};
 ghost use Rattle.sheets.specs.Sheet.{rowDigits, rowLength, over};
+ghost use Rattle.sheets.specs.Setting.{Field};
 use crate::digits;
 use sets::Set;
 
@@ -31,6 +32,15 @@ pub(crate) fn is_line(text: &[u8], at: usize, places: usize) -> bool
     digits::are_digits(&text[at..end])
 }
 
+// The number in the `places` digits of the text from the position `at` on.
+pub(crate) fn field(text: &[u8], at: usize, places: usize) -> u64
+    requires { ⌜ Field at places (now text) ⌝ }
+    ensures { λ r. ⌜ r ≡ field at places (now (text .entry)) ⌝ }
+{
+    let end = at + places;
+    digits::number(&text[at..end])
+}
+
 // Fills the text with the last digits of x and the byte that ends a line.
 pub fn write_line(text: &mut [u8], x: u64)
     requires { ⌜ 0 < length (now text) ⌝ }
@@ -42,7 +52,7 @@ pub fn write_line(text: &mut [u8], x: u64)
 }
 
 // Fills the text with the last digits of the mask of s, no more than a word has, and the byte that ends a line: a row, or a set of a list.
-fn write_row(text: &mut [u8], s: Set)
+pub(crate) fn write_row(text: &mut [u8], s: Set)
     requires { ⌜ (0 < length (now text)) × (length (now text) ≤ wordDigits + 1) ⌝ }
     ensures { λ _. ⌜ now (text .exit) ≡ line (digits (length (now (text .entry)) - 1) (mask s)) ⌝ }
 {

@@ -1,12 +1,12 @@
--- A request that is refused, or has no room, leaves the text; and else line 1 is written, and then the rows behind it.
-use Prim.Native.Nat.{ℕ, _*_}
+-- A request that is refused, or has no room, leaves the text; and else line 1 is written, and then the silent set and the rows behind it.
+use Prim.Native.Nat.{ℕ, _+_, _*_, _≤_}
 use native.Mathlib.Omega.{arith}
 use mathlib.Core.Path.{_≡_}
 use mathlib.Core.List.{List}
 use borrow.Author.Needs.{needs}
 use denote.Ref.{now}
 use lib.ListN.{length}
-use Rattle.sets.specs.Words.{masks}
+use Rattle.sets.specs.Words.{width, masks}
 use Rattle.judging.specs.Request.{Request, asked}
 use Rattle.judging.specs.Refusal.{firstOf}
 use Rattle.judging.specs.Calls.{passed, requestCheck}
@@ -35,29 +35,27 @@ accepted c =
     let checked = c .before .before .before .check-request in
     none-holds (requestCheck (graph c) (ask c)) (checked .result) (checked .ensures) (c .before .enum-told .given .1)
 
-mul-needed : tie.Need-mul-needed
-mul-needed c = omega (arith, graph-fits (graph c) (ask c) (accepted c))
-
-add-needed : tie.Need-add-needed
-add-needed c = omega (arith, graph-fits (graph c) (ask c) (accepted c))
+fits : (c : tie.After-count) → c .count .result ≤ width
+fits c = omega (arith, graph-fits (graph c) (ask c) (accepted c), c .count .ensures)
 
 returns-2 : tie.Need-returns-2
 returns-2 c = let at = c .before in text-refused (graph at) (ask at) (accepted at) (at .count .ensures) (c .if1 .taken)
 
-write-rows-requires : tie.Need-write-rows-requires
-write-rows-requires c κs =
-    let at = c .before .before .before .before .before .before in
-    let first = c .before .before .before .write-heading in
-    below-fits (length (graph at) * rowLength) (first .last .0) (omega (arith, first .kept .0, at .count .ensures))
+write-body-requires : tie.Need-write-body-requires
+write-body-requires c κs =
+    let at = c .before .before .before .before .before .before .before in
+    let first = c .before .before .before .before .write-heading in
+    below-fits ((length (graph at) + 1) * rowLength) (first .last .0) (omega (arith, first .kept .0, at .count .ensures))
 
 returns-3 : tie.Need-returns-3
 returns-3 c =
-    let at = c .before .before .before .before .before .before .before .before .before in
-    let room = c .before .before .before .before .before .before .before .before .if1 .left in
-    let first = c .before .before .before .before .before .before .write-heading in
-    text-written (graph at) (ask at) (accepted at) (at .count .ensures) room (first .ensures) (c .before .before .write-rows .ensures)
+    let room = c .before .before .before .before .before .before .before .before .before in
+    let at = room .before in
+    let first = c .before .before .before .before .before .before .before .write-heading in
+    text-written (graph at) (ask at) (accepted at) (at .count .ensures) (room .if1 .left) (first .ensures) (c .before .before .write-body .ensures)
 
 pub write-sheet-spec : {M : Type 1} → statement M
 write-sheet-spec =
-    tie.close (tie.spec (λ c. search needs) (λ c. search needs) returns (λ c. search needs) (λ c. search needs) mul-needed add-needed returns-2
-    (λ c. search needs) (λ c. search needs) (λ c. search needs) (λ c. search needs) write-rows-requires (λ c. search needs) returns-3)
+    tie.close (tie.spec (λ c. search needs) (λ c. search needs) returns (λ c. search needs) (λ c. search needs)
+    (λ c. omega (arith, fits c)) (λ c. omega (arith, fits c)) (λ c. omega (arith, fits c)) returns-2
+    (λ c. search needs) (λ c. search needs) (λ c. search needs) (λ c. search needs) write-body-requires (λ c. search needs) returns-3)

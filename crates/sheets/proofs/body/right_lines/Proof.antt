@@ -5,14 +5,14 @@ use mathlib.Core.Path.{sym, _∙_}
 use borrow.Author.Tests.{not-true, not-false}
 use Rattle.sheets.specs.Sheet.{rowDigits}
 use Rattle.sheets.specs.LineLaws.{Walking, walking-none, walking-more, walking-stop, walking-all}
-use Rattle.sheets.proofs.body.right_rows.Statement.{statement}
-use Rattle.sheets.proofs.body.right_rows.Tie as tie
+use Rattle.sheets.proofs.body.right_lines.Statement.{statement}
+use Rattle.sheets.proofs.body.right_lines.Tie as tie
 
 abbrev Inv-loop : tie.InvT-loop
-Inv-loop text n a₀ a = Walking rowDigits n text a
+Inv-loop text count a₀ a = Walking rowDigits count text a
 
 abbrev μ-loop : tie.MeasureT-loop
-μ-loop text n a₀ a = n - a
+μ-loop text count a₀ a = count - a
 
 loop-holds : tie.Need-loop-holds Inv-loop μ-loop
 loop-holds c = walking-none
@@ -30,6 +30,6 @@ loop-again c =
 returns-2 : tie.Need-returns-2 Inv-loop μ-loop
 returns-2 c = walking-all (c .before .loop .inv) (omega arith)
 
-pub right-rows-spec : {M : Type 1} → statement M
-right-rows-spec = tie.close (tie.spec Inv-loop μ-loop loop-holds (λ c. omega arith) (λ c κs. omega arith) returns (λ c. omega arith)
+pub right-lines-spec : {M : Type 1} → statement M
+right-lines-spec = tie.close (tie.spec Inv-loop μ-loop loop-holds (λ c. omega arith) (λ c κs. omega arith) returns (λ c. omega arith)
     (λ c. omega arith) loop-again returns-2)
