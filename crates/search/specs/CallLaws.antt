@@ -9,7 +9,8 @@ use borrow.Author.Tests.{le-leb, lt-leb}
 use Rattle.judging.specs.Request.{Request}
 use Rattle.judging.specs.Refusal.{refused, answered, firstOf}
 use Rattle.judging.specs.Calls.{refusal, passed, requestCheck}
-use Rattle.judging.specs.RefusalLaws.{graph-sized, graph-checked, slack-graph, slack-accepted, request-slack, floor-accepted}
+use Rattle.judging.specs.RefusalLaws.{graph-sized, graph-checked, slack-graph, slack-accepted, floor-accepted}
+use Rattle.judging.specs.RefusalLaws.{request-slack, request-floor, silent-accepted}
 use Rattle.judging.specs.declared.Refusal.{Refusal}
 use Rattle.judging.specs.declared.Refusal.the-variants.{Slots}
 use Rattle.lists.specs.Listing.{listed, listing}
@@ -36,13 +37,14 @@ module _ (g : List ℕ) (ask : Request) where
   pub accepted-holds : firstOf (requestCheck g ask) passed ≡ passed → Accepted g ask
   accepted-holds e =
       let s = request-slack g ask e in
-      let f = floor-accepted g ask e in
+      let f = floor-accepted g (ask .slack) (ask .floor) (request-floor g ask e) in
       let h = slack-accepted g (ask .slack) s in
       record {
         sized = graph-sized g (slack-graph g (ask .slack) s);
         valid = graph-checked g (slack-graph g (ask .slack) s);
         slack = h;
         floor = (omega (arith, f .0, h .0), omega (arith, f .1));
+        silent = silent-accepted g ask e;
       }
 
   -- a request that is refused leaves the slots

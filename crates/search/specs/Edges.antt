@@ -1,5 +1,5 @@
--- The starred edges of document 01, "Edges to run", those of looseness and those of passes (document 02, cards 2 and 4), as one table that the checker
--- computes: what the definitions give, beside what the document says.
+-- The starred edges of document 01, "Edges to run", those of looseness, of passes and of silent vertices (document 02, cards 2, 4 and 6), as one
+-- table that the checker computes: what the definitions give, beside what the document says.
 use Prim.Native.Nat.{ℕ}
 use mathlib.Core.Bool.{Bool, true, false, _&&_}
 use mathlib.Core.List.{List, [], _∷_}
@@ -8,12 +8,12 @@ use lib.Dec.{T, eqb}
 use Rattle.sets.specs.Ranges.{from, range, first, all, any, keep, total, greatest, joined}
 use Rattle.sets.specs.Set.{bit, has, subset, with, minus, setOf, members}
 use Rattle.sets.specs.Graph.{row}
-use Rattle.judging.specs.Request.{request}
+use Rattle.judging.specs.Request.{Request, request}
 use Rattle.judging.specs.Graph.{adjacent, degree, missing}
 use Rattle.judging.specs.Plex.{plex, maximal, looseness}
-use Rattle.judging.specs.Refusal.{Reply, refused, answered, firstOf, outside, vertexCause, slackCause, floorCause}
+use Rattle.judging.specs.Refusal.{Reply, refused, answered, replyNumber, replyValue, firstOf, outside, vertexCause, slackCause, floorCause}
 use Rattle.judging.specs.Refusal.{badRow, oneWay, lowestRow, rowCause, edgeCause, graphCauses, setCause, vertexOutCause}
-use Rattle.judging.specs.Calls.{graphCheck, slackCheck, requestCheck, insideCheck, setCheck, loosenessReply}
+use Rattle.judging.specs.Calls.{passed, graphCheck, slackCheck, numberCheck, floorCheck, requestCheck, insideCheck, setCheck, loosenessReply}
 use Rattle.bounds.specs.Core.{dense, core, look, passTo, pass, passesWithin, passes, Peeling, peeling}
 use Rattle.bounds.specs.Reach.{reach}
 use Rattle.bounds.specs.Bound.{support, usable, ordered, supports, packable, firstBound, lesser, least, tightest, kept, secondBound, largest}
@@ -61,6 +61,10 @@ pub shown : Reply ℕ → List ℕ
 shown (refused n v) = n ∷ v ∷ []
 shown (answered v x) = 0 ∷ v ∷ x ∷ []
 
+-- the number and the value of what the checks of a request give
+checked : List ℕ → Request → List ℕ
+checked g ask = let r = firstOf (requestCheck g ask) passed in replyNumber r ∷ replyValue r ∷ []
+
 -- a core with its passes
 shownCore : Reply Peeling → List ℕ
 shownCore (refused n v) = n ∷ v ∷ []
@@ -78,18 +82,26 @@ hold (edge a b ∷ es) = agree a b && hold es
 
 pub edges : List Edge
 edges =
-    edge (listing ring5 (request 2 3)) (0x07 ∷ 0x0E ∷ 0x13 ∷ 0x19 ∷ 0x1C ∷ [])
+    edge (listing ring5 (request 2 3 0)) (0x07 ∷ 0x0E ∷ 0x13 ∷ 0x19 ∷ 0x1C ∷ [])
     ∷ edge (shownCore (coreReply ring5 2 4)) (0 ∷ 0 ∷ 0x1F ∷ 1 ∷ [])
     ∷ edge (shownCore (coreReply ring5 2 5)) (0 ∷ 0 ∷ 0 ∷ 2 ∷ [])
     ∷ edge (shownCore (coreReply path4 1 3)) (0 ∷ 0 ∷ 0 ∷ 2 ∷ [])
     ∷ edge (shownCore (coreReply outward4 1 3)) (0 ∷ 0 ∷ 0 ∷ 3 ∷ [])
     ∷ edge (shownCore (coreReply outward4 2 4)) (0 ∷ 0 ∷ 0 ∷ 3 ∷ [])
     ∷ edge (shownCore (coreReply oneWay3 1 1)) (5 ∷ 1 ∷ [])
-    ∷ edge (listing ring4 (request 2 4)) (0xF ∷ [])
-    ∷ edge (listing ring4 (request 1 2)) (0x3 ∷ 0x6 ∷ 0x9 ∷ 0xC ∷ [])
-    ∷ edge (listing apart3 (request 1 1)) (1 ∷ 2 ∷ 4 ∷ [])
-    ∷ edge (listing apart3 (request 2 3)) []
-    ∷ edge (listing single (request 1 1)) (1 ∷ [])
+    ∷ edge (listing ring4 (request 2 4 0)) (0xF ∷ [])
+    ∷ edge (listing ring4 (request 1 2 0)) (0x3 ∷ 0x6 ∷ 0x9 ∷ 0xC ∷ [])
+    ∷ edge (listing apart3 (request 1 1 0)) (1 ∷ 2 ∷ 4 ∷ [])
+    ∷ edge (listing apart3 (request 2 3 0)) []
+    ∷ edge (listing single (request 1 1 0)) (1 ∷ [])
+    ∷ edge (listing ring5 (request 2 3 0x01)) (0x0E ∷ 0x1C ∷ [])
+    ∷ edge (listing ring5 (request 2 3 0x05)) []
+    ∷ edge (listing ring4 (request 2 3 0x1)) (0xF ∷ [])
+    ∷ edge (listing ring4 (request 2 4 0x1)) []
+    ∷ edge (listing apart3 (request 1 1 0x2)) (1 ∷ 4 ∷ [])
+    ∷ edge (listing path4 (request 2 3 0x2)) []
+    ∷ edge (checked oneWay3 (request 1 1 0x8)) (7 ∷ 0 ∷ [])
+    ∷ edge (checked oneWay3 (request 1 1 0x4)) (5 ∷ 1 ∷ [])
     ∷ edge (shown (reachReply path4 0)) (0 ∷ 0 ∷ 7 ∷ [])
     ∷ edge (shown (firstBoundReply seven 2 0x07 0x78 3)) (0 ∷ 0 ∷ 8 ∷ [])
     ∷ edge (shown (secondBoundReply seven 2 0x07 0x78 3)) (0 ∷ 0 ∷ 6 ∷ [])
@@ -103,5 +115,5 @@ edges =
     ∷ []
 
 pub edges-hold : T (hold edges)
-unfolding hold edges shown shownCore agree ring5 ring4 apart3 single path4 outward4 oneWay3 seven from range first all any keep total greatest joined bit has ones onesIn subset with minus setOf members row adjacent degree missing plex maximal looseness firstOf outside vertexCause slackCause floorCause badRow oneWay lowestRow rowCause edgeCause graphCauses setCause vertexOutCause graphCheck slackCheck requestCheck insideCheck setCheck loosenessReply dense core look passTo pass passesWithin passes peeling reach support usable ordered supports packable firstBound lesser least tightest kept secondBound largest coreReply reachCheck reachReply overlap misplaced boundCause boundCheck firstBoundReply secondBoundReply listed listing
+unfolding hold edges shown checked shownCore agree ring5 ring4 apart3 single path4 outward4 oneWay3 seven from range first all any keep total greatest joined bit has ones onesIn subset with minus setOf members row adjacent degree missing plex maximal looseness firstOf outside vertexCause slackCause floorCause badRow oneWay lowestRow rowCause edgeCause graphCauses setCause vertexOutCause graphCheck slackCheck numberCheck floorCheck requestCheck insideCheck setCheck loosenessReply dense core look passTo pass passesWithin passes peeling reach support usable ordered supports packable firstBound lesser least tightest kept secondBound largest coreReply reachCheck reachReply overlap misplaced boundCause boundCheck firstBoundReply secondBoundReply listed listing
 edges-hold = tt

@@ -1,12 +1,12 @@
 -- Laws of what a call of the search is to add: where a branch may be cut, what a leaf adds, and how the branches with and without a vertex share the rest.
-use Prim.Native.Nat.{ℕ, _^_, _≤_, _<_, max}
+use Prim.Native.Nat.{ℕ, _+_, _^_, _≤_, _<_, max}
 use native.Mathlib.Omega.{arith}
 use mathlib.Core.Path.{_≡_, sym, ap, _∙_}
 use mathlib.Core.Logic.{⊎-elim}
 use mathlib.Core.Bool.{_&&_}
 use mathlib.Core.List.{List}
 use lib.Dec.{T}
-use lib.Bits.{bitOr}
+use lib.Bits.{bitAnd, bitOr}
 use lib.ListN.{length}
 use Rattle.sets.specs.Set.{bit, In, Sub, size, subset, with, without, minus}
 use Rattle.sets.specs.Graph.{row}
@@ -15,17 +15,20 @@ use Rattle.sets.specs.BitLaws.{bit-le, bit-or, bit-minus}
 use Rattle.sets.specs.PointLaws.{bit-none, bit-with, single-in, single-out, by-bit}
 use Rattle.sets.specs.SubsetLaws.{subset-sub, sub-subset, sub-trans, sub-below, in-of-sub, in-below, with-sub, with-same, sub-with, without-same}
 use Rattle.sets.specs.SizeLaws.{size-mono}
-use Rattle.judging.specs.Request.{Request}
+use Rattle.judging.specs.Request.{Request, recorded}
 use Rattle.judging.specs.Graph.{missing, Valid}
 use Rattle.judging.specs.Plex.{Plex, extendable}
+use Rattle.judging.specs.PlexLaws.{hereditary}
 use Rattle.judging.specs.ExtensionLaws.{extendable-none, unextendable-maximal}
 use Rattle.bounds.specs.Bound.{secondBound}
 use Rattle.bounds.specs.BoundSetting.{Boundable}
 use Rattle.bounds.specs.BoundSound.{second-sound}
 use Rattle.lists.specs.Listing.{listed}
-use Rattle.lists.specs.ListingLaws.{listed-holds, listed-test}
+use Rattle.lists.specs.ListingLaws.{listed-holds, listed-test, listed-size}
 use Rattle.lists.specs.Placing.{Apart, union}
-use Rattle.search.specs.Found.{found, Found, Empty, Compatible, Short}
+use Rattle.search.specs.Found.{found, Found, Empty, Compatible, Short, Lacks}
+use Rattle.search.specs.RecordedLaws.{counting, counting-sub, counting-size, counting-plex, counting-large, counting-mono}
+use Rattle.search.specs.Partition.{Between}
 use Rattle.search.specs.TrimLaws.{kept-found}
 use Rattle.search.specs.Trim.{Beside}
 
@@ -63,7 +66,10 @@ module _ {g : List ℕ} {ask : Request} {s c a : ℕ} (e : a ≡ bitOr s c) wher
   within f = rw e (f .upper)
 
   pub short-empty : Short g (ask .slack) (ask .floor) s a → Empty g ask s c
-  short-empty h x f = omega (arith, h x (f .listed .below) (f .listed .top .0) (f .lower) (within f), f .listed .large)
+  short-empty h x f = omega (arith, h x (f .listed .below) (f .listed .top .0) (f .lower) (within f), listed-size g ask (f .listed))
+
+  pub lacks-empty : Lacks g ask s a → Empty g ask s c
+  lacks-empty h x f = omega (arith, h x (f .listed .below) (f .listed .top .0) (f .lower) (within f), f .listed .large)
 
   pub extendable-empty : Valid g → T (extendable g (ask .slack) a) → Empty g ask s c
   extendable-empty ok h x f = extendable-none g (ask .slack) a x ok (f .listed .below) h (within f) (f .listed .top)
@@ -86,7 +92,7 @@ module _ {g : List ℕ} {ask : Request} {s c a : ℕ} (e : a ≡ bitOr s c) wher
 
   -- a leaf: a is a plex
   module _ (b : a < 2 ^ length g) (p : Plex g (ask .slack) a) where
-    pub leaf-found : Valid g → (T (extendable g (ask .slack) a) → ⊥) → ask .floor ≤ size a → Found g ask s c a
+    pub leaf-found : Valid g → (T (extendable g (ask .slack) a) → ⊥) → ask .floor ≤ size (recorded ask a) → Found g ask s c a
     leaf-found ok n l =
         record {
           lower = λ u. omega (arith, whole-bit s c e u);
@@ -97,18 +103,62 @@ module _ {g : List ℕ} {ask : Request} {s c a : ℕ} (e : a ≡ bitOr s c) wher
     pub leaf-only : {x : ℕ} → Found g ask s c x → x ≡ a
     leaf-only f = sym (f .listed .top .1 a b (within f) p)
 
--- the second bound, n, for s, the candidates c with v, and v
-pub bounded-empty : {g : List ℕ} {ask : Request} {s c v d n : ℕ} → Boundable g (ask .slack) s (with c v) v → d ≡ with c v
-    → n ≡ secondBound g (ask .slack) s d v → n < ask .floor → Empty g ask (with s v) c
-bounded-empty {g} {ask} {s} {c} {v} b e z l x f =
-    let held : In v x = omega (arith, f .lower v, with-same s v, bit-le x v) in
-    let lower = sub-trans s (with s v) x (sub-with s v) (f .lower) in
-    let inside = b .supported .inside .below in
-    let sound = second-sound g (ask .slack) s (with c v) v x (b .valid) inside (f .listed .below) (f .listed .top .0) lower held upper (b .apart) in
-    omega (arith, f .listed .large, sound, ap (λ (y : ℕ). secondBound g (ask .slack) s y v) e)
-  where
-    upper : Sub x (bitOr s (with c v))
-    upper u = omega (arith, f .upper u, bit-or (with s v) c u, bit-with s v u, bit-or s (with c v) u, bit-with c v u)
+-- where the silent candidates are left out, and the floor is raised by the silent members of s, it is the number of members that decides
+module _ {g : List ℕ} (ask : Request) {s a d : ℕ} (b : Between g s a) (e : d ≡ counting ask s a) where
+  pub counting-between : Between g s d
+  counting-between =
+      rw e
+      (record {
+        below = sub-below (length g) (counting ask s a) a (counting-sub ask s a (b .part)) (b .below);
+        part = λ v. omega (arith, bit-or s (recorded ask a) v);
+      })
+
+  module _ {q : ℕ} (n : q ≡ ask .floor + size (bitAnd s (ask .silent))) where
+    pub short-lacks : Short g (ask .slack) q s d → Lacks g ask s a
+    short-lacks h t l p lower upper =
+        let inside = counting-sub ask s t lower in
+        let few = h (counting ask s t) (sub-below (length g) (counting ask s t) t inside l) (hereditary g (ask .slack) (counting ask s t) t inside p)
+        (λ v. omega (arith, bit-or s (recorded ask t) v)) (rw e (counting-mono ask s t a upper)) in
+        omega (arith, few, n, counting-size ask s t lower)
+
+    pub large-enough : q ≤ size d → ask .floor ≤ size (recorded ask a)
+    large-enough l = omega (arith, l, n, ap size e, counting-size ask s a (b .part))
+
+-- the second bound for s, the candidates c with v that are not silent, and v
+module _ {g : List ℕ} (ask : Request) {s : ℕ} (c : ℕ) {v d : ℕ} (b : Boundable g (ask .slack) s (with c v) v) (e : d ≡ with (recorded ask c) v) where
+  bounded-part : Sub (with (recorded ask c) v) (with c v)
+  bounded-part u = omega (arith, bit-with (recorded ask c) v u, bit-with c v u, bit-minus c (ask .silent) u)
+
+  pub bounded-boundable : Boundable g (ask .slack) s d v
+  bounded-boundable =
+      rw e
+      (record {
+        supported = b .supported;
+        valid = b .valid;
+        some = b .some;
+        vertex = b .vertex;
+        below = sub-below (length g) (with (recorded ask c) v) (with c v) bounded-part (b .below);
+        apart = λ u i. b .apart u (in-of-sub (with (recorded ask c) v) (with c v) u bounded-part i);
+      })
+
+  -- n is the bound, and q the floor raised by the silent ones of s and v
+  pub bounded-empty : {n q : ℕ} → n ≡ secondBound g (ask .slack) s d v → q ≡ ask .floor + size (bitAnd (with s v) (ask .silent)) → n < q
+      → Empty g ask (with s v) c
+  bounded-empty {n} {q} z raised l x f =
+      let y = counting ask (with s v) x in
+      let below = sub-below (length g) y x (counting-sub ask (with s v) x (f .lower)) (f .listed .below) in
+      let sound = second-sound g (ask .slack) s d v y (b .valid) (b .supported .inside .below) below (counting-plex ask (with s v) x (f .lower) (f .listed))
+      (λ u. omega (arith, bit-or (with s v) (recorded ask x) u, bit-with s v u))
+      (omega (arith, bit-or (with s v) (recorded ask x) v, with-same s v, bit-le y v)) (rw e upper) (bounded-boundable .apart) in
+      omega (arith, counting-large ask (with s v) x (f .lower) (f .listed), sound, z, raised)
+    where
+      -- a member that is not silent is in s, v, or such a candidate
+      counted : (u : ℕ) → bit (recorded ask x) u ≤ max (bit (with s v) u) (bit (recorded ask c) u)
+      counted u = omega (arith, f .upper u, bit-or (with s v) c u, bit-minus x (ask .silent) u, bit-minus c (ask .silent) u)
+
+      upper : Sub (counting ask (with s v) x) (bitOr s (with (recorded ask c) v))
+      upper u =
+          omega (arith, counted u, bit-or (with s v) (recorded ask x) u, bit-with s v u, bit-or s (with (recorded ask c) v) u, bit-with (recorded ask c) v u)
 
 -- ---- fewer candidates
 

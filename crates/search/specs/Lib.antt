@@ -1,4 +1,5 @@
 -- The search: definitions first, then their laws.
+pub mod RecordedLaws
 pub mod Found
 pub mod Trim
 pub mod TrimLaws
@@ -17,9 +18,10 @@ pub mod Calls
 pub mod RoomLaws
 pub mod Cliques
 pub mod CliqueLaws
-pub mod SweepLaws
 pub mod TakeLaws
+pub mod SweepLaws
 pub mod EndLaws
+pub mod FloorLaws
 pub mod Start
 pub mod StartLaws
 pub mod CallLaws

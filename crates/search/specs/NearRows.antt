@@ -3,9 +3,11 @@
 --   close g k q s v u         u and v have as many common neighbours in s as two members of one plex of q or more members of s (001, Lemma 3)
 --   pairRow g k q s f v       the members of f, v aside, that are close to v
 --   reachRow g r v            the reach of v where the switch r is on, else all vertices
---   nearRow g k q s r p v     row v by the cuts that are switched on, where r is the switch of the reach and p that of the pairs
+--   nearRow g k q a s r p v   row v by the cuts that are switched on, where r is the switch of the reach and p that of the pairs: the members of a that are
+--                             close to v by their common neighbours in s
 --   Pairable g k q s          what a pair row relies on: s is inside the graph, and the sums of the test are small
---   Pairing g ask s           the same, of a valid graph, and s holds every listed plex
+--   Pairing g k q a s         the same of a valid graph, with the vertices a of it
+--   Pairs g ask a s           a holds every listed plex, and s the members of it that are not silent
 --   Lent g t                  the lent table t has a row for each vertex
 --   Filled g ask before t     t is as long as before, its rows are sets of vertices, and it is Near
 use Prim.Native.Nat.{ℕ, _+_, _*_, _^_, _≤_, _<_}
@@ -18,7 +20,7 @@ use lib.ListN.{length}
 use Rattle.sets.specs.Set.{bit, has, Sub, without, full, setOf}
 use Rattle.sets.specs.Graph.{row}
 use Rattle.sets.specs.Words.{width}
-use Rattle.judging.specs.Request.{Request}
+use Rattle.judging.specs.Request.{Request, recorded}
 use Rattle.judging.specs.Graph.{Valid}
 use Rattle.judging.specs.Setting.{Sized, Inside}
 use Rattle.bounds.specs.Pair.{common}
@@ -36,18 +38,22 @@ pairRow g k q s f v = setOf (length g) (λ u. has (without f v) u && close g k q
 unfoldable pub reachRow : List ℕ → Bool → ℕ → ℕ
 reachRow g r v = cond r (reach g v) (full (length g))
 
-unfoldable pub nearRow : List ℕ → ℕ → ℕ → ℕ → Bool → Bool → ℕ → ℕ
-nearRow g k q s r p v = cond p (pairRow g k q s (bitAnd s (reachRow g r v)) v) (reachRow g r v)
+unfoldable pub nearRow : List ℕ → ℕ → ℕ → ℕ → ℕ → Bool → Bool → ℕ → ℕ
+nearRow g k q a s r p v = cond p (pairRow g k q s (bitAnd a (reachRow g r v)) v) (reachRow g r v)
 
 pub record Pairable (g : List ℕ) (k q s : ℕ) : Type 0 where
   pub inside : Inside g s
   pub slack : k ≤ width
-  pub floor : q ≤ width
+  pub floor : q ≤ 2 * width
 
-pub record Pairing (g : List ℕ) (ask : Request) (s : ℕ) : Type 0 where
-  pub pairable : Pairable g (ask .slack) (ask .floor) s
+pub record Pairing (g : List ℕ) (k q a s : ℕ) : Type 0 where
+  pub pairable : Pairable g k q s
+  pub below : a < 2 ^ length g
   pub valid : Valid g
-  pub holds : (x : ℕ) → Listed g ask x → Sub x s
+
+pub record Pairs (g : List ℕ) (ask : Request) (a s : ℕ) : Type 0 where
+  pub holds : (x : ℕ) → Listed g ask x → Sub x a
+  pub counts : (x : ℕ) → Listed g ask x → Sub (recorded ask x) s
 
 pub record Lent (g t : List ℕ) : Type 0 where
   pub sized : Sized g

@@ -3,45 +3,107 @@
 --
 --   Written f m before t   the first m rows of t are those of f, and t is as long as before
 --   NearAt g ask v r       r is a set of vertices, and holds all members, v aside, of each listed plex that holds v
-use Prim.Native.Nat.{ℕ, _+_, _*_, _^_, _≤_, _<_}
+use Prim.Native.Nat.{ℕ, _+_, _*_, _^_, _≤_, _<_, max}
 use native.Mathlib.Nat.{le-trans, not-suc-le-zero}
 use native.Mathlib.Omega.{arith}
 use native.Mathlib.Decide.{ℕ-discrete}
-use mathlib.Core.Path.{_≡_, refl, sym, subst, _∙_}
+use mathlib.Core.Path.{_≡_, refl, sym, ap, subst, _∙_}
 use mathlib.Core.Logic.{_≢_, _⊎_, inl, inr}
-use mathlib.Core.Bool.{Bool, true, false, not}
+use mathlib.Core.Bool.{Bool, true, false, not, cond}
 use mathlib.Core.List.{List}
 use lib.Bits.{bitAnd}
 use lib.Dec.{T, leb, le→leb, T-not}
 use lib.ListN.{length, set, length-set}
 use lib.Pow.{pow-pos}
 use lib.Seq.{getD-set-same, getD-set-other}
-use Rattle.sets.specs.Set.{bit, has, In, Sub, size, without, full}
+use Rattle.sets.specs.Set.{bit, has, In, Sub, size, with, without, full}
 use Rattle.sets.specs.Graph.{row}
 use Rattle.sets.specs.RangeLaws.{both, and-left, and-right, test}
-use Rattle.sets.specs.BitLaws.{bit-and}
-use Rattle.sets.specs.SubsetLaws.{sub-of-in, sub-below, without-other, minus-sub, in-of-sub, in-below, in-has, has-in}
+use Rattle.sets.specs.BitLaws.{bit-le, bit-and, bit-or, bit-minus, bit-pow-same}
+use Rattle.sets.specs.PointLaws.{bit-none, bit-with, single-in, single-out}
+use Rattle.sets.specs.SizeLaws.{size-mono}
+use Rattle.sets.specs.SubsetLaws.{sub-refl, sub-of-in, sub-below, without-other, minus-sub, in-of-sub, in-below, in-has, has-in}
 use Rattle.sets.specs.MemberLaws.{set-of-in, set-of-holds, set-of-below, set-of-unique}
 use Rattle.sets.specs.WordLaws.{bit-full}
-use Rattle.judging.specs.Request.{Request}
+use Rattle.judging.specs.Request.{Request, recorded}
 use Rattle.judging.specs.Graph.{Valid}
+use Rattle.judging.specs.Plex.{Plex}
+use Rattle.judging.specs.PlexLaws.{hereditary}
 use Rattle.bounds.specs.Pair.{common}
 use Rattle.bounds.specs.PairLaws.{pair-common}
 use Rattle.bounds.specs.Reach.{reach}
 use Rattle.bounds.specs.ReachLaws.{reach-below, plex-reach}
 use Rattle.lists.specs.Listing.{Listed}
-use Rattle.search.specs.NearRows.{close, pairRow, reachRow, nearRow, Pairing, Filled}
+use Rattle.lists.specs.ListingLaws.{listed-size}
+use Rattle.search.specs.RecordedLaws.{counting, counting-large}
+use Rattle.search.specs.NearRows.{close, pairRow, reachRow, nearRow, Pairs, Filled}
 use Rattle.sets.specs.DropLaws.{Dropping, dropping-all}
 
 -- ---- pairs
 
--- two members of a listed plex are close
-pub pair-close : {g : List ℕ} {ask : Request} {x : ℕ} → Listed g ask x → Valid g → (s u v : ℕ) → Sub x s → In u x → In v x → u ≢ v
-    → T (close g (ask .slack) (ask .floor) s u v)
-unfolding close
-pair-close {g} {ask} {x} h ok s u v p hu hv ne =
-    le→leb (ask .floor + 2) (common g s u v + 2 * ask .slack + 2 * bit (row g u) v)
-    (omega (arith, pair-common g (ask .slack) ok s x u v (h .below) (h .top .0) p hu hv ne, h .large))
+-- two members of a listed plex are close: what j, a part of it, and its members that are not silent have in common with both counts, and q is raised by the
+-- silent members of j
+module _ {g : List ℕ} {ask : Request} {x : ℕ} (h : Listed g ask x) (ok : Valid g) (j s q : ℕ) (part : Sub j x) (inside : Sub j s)
+    (counts : Sub (recorded ask x) s) (floor : q ≤ ask .floor + size (bitAnd j (ask .silent))) where
+  pub pair-close : (u v : ℕ) → In u x → In v x → u ≢ v → T (close g (ask .slack) q s u v)
+  unfolding close common
+  pair-close u v hu hv ne =
+      le→leb (q + 2) (common g s u v + 2 * ask .slack + 2 * bit (row g u) v)
+      (omega (arith, pair-common g (ask .slack) ok y y u v below plexed (sub-refl y) in-u in-v ne, floor, enough, shared))
+    where
+      -- the two of them, j and what is not silent
+      y : ℕ
+      y = with (with (counting ask j x) u) v
+
+      bit-y : (w : ℕ) → bit y w ≡ max (max (max (bit j w) (bit (recorded ask x) w)) (bit (2 ^ u) w)) (bit (2 ^ v) w)
+      bit-y w =
+          bit-with (with (counting ask j x) u) v w
+          ∙ ap (λ (t : ℕ). max t (bit (2 ^ v) w)) (bit-with (counting ask j x) u w ∙ ap (λ (t : ℕ). max t (bit (2 ^ u) w)) (bit-or j (recorded ask x) w))
+
+      within : Sub y x
+      within w = omega (arith, bit-y w, part w, bit-minus x (ask .silent) w, single-in x u w hu, single-in x v w hv)
+
+      below : y < 2 ^ length g
+      below = sub-below (length g) y x within (h .below)
+
+      plexed : Plex g (ask .slack) y
+      plexed = hereditary g (ask .slack) y x within (h .top .0)
+
+      in-u : In u y
+      in-u = omega (arith, bit-y u, bit-pow-same u, bit-le y u)
+
+      in-v : In v y
+      in-v = omega (arith, bit-y v, bit-pow-same v, bit-le y v)
+
+      enough : ask .floor + size (bitAnd j (ask .silent)) ≤ size y
+      enough =
+          omega (arith, counting-large ask j x part h, size-mono (counting ask j x) y (λ w. omega (arith, bit-y w, bit-or j (recorded ask x) w)))
+
+      -- neither of them is a neighbour of both
+      shared : size (bitAnd y (bitAnd (row g u) (row g v))) ≤ size (bitAnd s (bitAnd (row g u) (row g v)))
+      shared =
+          let out-u = ok .loopless u (in-below (length g) x u (h .below) hu) in
+          let out-v = ok .loopless v (in-below (length g) x v (h .below) hv) in
+          size-mono _ _ (λ w.
+          omega (
+            arith,
+            bit-y w,
+            bit-and y (bitAnd (row g u) (row g v)) w,
+            bit-and s (bitAnd (row g u) (row g v)) w,
+            bit-and (row g u) (row g v) w,
+            inside w,
+            counts w,
+            single-out (row g u) u w out-u,
+            single-out (row g v) v w out-v,
+            bit-le s w,
+          ))
+
+  -- so a member in f other than v is in the pair row of v
+  pub pair-row-in : (f v u : ℕ) → In v x → In u x → v ≢ u → In u f → In u (pairRow g (ask .slack) q s f v)
+  unfolding pairRow
+  pair-row-in f v u hv hu ne i =
+      set-of-in _ (length g) u (in-below _ x u (h .below) hu)
+      (both (has (without f v) u) (close g (ask .slack) q s v u) (in-has _ u (without-other f v u ne ∙ i)) (pair-close v u hv hu ne))
 
 -- the test by its parts: the rows a and b, what they share, that in s, its size, and whether a holds u
 pub close-test : (g : List ℕ) (k q s v u : ℕ) {a b m c n t : ℕ} → a ≡ row g v → b ≡ row g u → m ≡ bitAnd a b → c ≡ bitAnd s m → n ≡ size c
@@ -57,14 +119,6 @@ pair-row-part g k q s f v =
     sub-of-in _ f (λ u i.
     in-of-sub (without f v) f u (minus-sub f (2 ^ v))
     (has-in (without f v) u (and-left (has (without f v) u) (close g k q s v u) (set-of-holds _ (length g) u i .1))))
-
--- a listed plex within s that holds v: its other members in f are in the pair row
-pub pair-row-in : {g : List ℕ} {ask : Request} {x : ℕ} → Listed g ask x → Valid g → (s f v u : ℕ) → Sub x s → In v x → In u x → v ≢ u → In u f
-    → In u (pairRow g (ask .slack) (ask .floor) s f v)
-unfolding pairRow
-pair-row-in {g} {ask} {x} h ok s f v u p hv hu ne i =
-    set-of-in _ (length g) u (in-below _ x u (h .below) hu)
-    (both (has (without f v) u) (close g (ask .slack) (ask .floor) s v u) (in-has _ u (without-other f v u ne ∙ i)) (pair-close h ok s v u p hv hu ne))
 
 -- a walk through f without v that drops what is not close to v ends with the pair row
 pub pair-row-all : (g : List ℕ) (k q s f v : ℕ) {left r : ℕ} → left ≡ 0
@@ -111,16 +165,16 @@ module _ {g : List ℕ} {ask : Request} {v : ℕ} where
   full-near = record { low = omega (arith, pow-pos (length g)); near = λ x h hv u hu ne. bit-full (length g) u (in-below _ x u (h .below) hu) }
 
   module _ (ok : Valid g) where
-    -- what is near, sifted by pairs of s
-    pub pair-row-near : (s w : ℕ) → ((x : ℕ) → Listed g ask x → Sub x s) → NearAt g ask v w
-        → NearAt g ask v (pairRow g (ask .slack) (ask .floor) s (bitAnd s w) v)
+    -- what is near, sifted by pairs
+    pub pair-row-near : (a s w : ℕ) → Pairs g ask a s → NearAt g ask v w → NearAt g ask v (pairRow g (ask .slack) (ask .floor) s (bitAnd a w) v)
     unfolding pairRow
-    pair-row-near s w holds wide =
+    pair-row-near a s w pairs wide =
         record {
           low = set-of-below _ (length g);
           near = λ x h hv u hu ne.
-              pair-row-in h ok s (bitAnd s w) v u (holds x h) hv hu (λ e. ne (sym e))
-              (omega (arith, bit-and s w u, in-of-sub x s u (holds x h) hu, wide .near x h hv u hu ne));
+              pair-row-in h ok 0 s (ask .floor) (λ z. omega (arith, bit-none z)) (λ z. omega (arith, bit-none z)) (pairs .counts x h) (omega arith)
+              (bitAnd a w) v u hv hu (λ e. ne (sym e))
+              (omega (arith, bit-and a w u, in-of-sub x a u (pairs .holds x h) hu, wide .near x h hv u hu ne));
         }
 
     module _ (big : 2 * ask .slack ≤ ask .floor + 1) where
@@ -129,7 +183,7 @@ module _ {g : List ℕ} {ask : Request} {v : ℕ} where
           record {
             low = reach-below g v;
             near = λ x h hv u hu ne.
-                in-of-sub x (reach g v) u (plex-reach g (ask .slack) x v ok (h .below) (h .top .0) (omega (arith, h .large)) hv) hu;
+                in-of-sub x (reach g v) u (plex-reach g (ask .slack) x v ok (h .below) (h .top .0) (omega (arith, listed-size g ask h)) hv) hu;
           }
 
     pub reach-row-near : (r : Bool) → (r ≡ true → 2 * ask .slack ≤ ask .floor + 1) → NearAt g ask v (reachRow g r v)
@@ -138,18 +192,20 @@ module _ {g : List ℕ} {ask : Request} {v : ℕ} where
     reach-row-near false big = full-near
 
 -- whatever is switched on
-pub near-row-near : {g : List ℕ} {ask : Request} {s : ℕ} (v : ℕ) (r p : Bool) → Pairing g ask s → (r ≡ true → 2 * ask .slack ≤ ask .floor + 1)
-    → NearAt g ask v (nearRow g (ask .slack) (ask .floor) s r p v)
-unfolding nearRow
-near-row-near {g} {ask} {s} v r true h big = pair-row-near (h .valid) s (reachRow g r v) (h .holds) (reach-row-near (h .valid) r big)
-near-row-near v r false h big = reach-row-near (h .valid) r big
+module _ {g : List ℕ} {ask : Request} {a s : ℕ} (ok : Valid g) (h : Pairs g ask a s) (r p : Bool) (big : r ≡ true → 2 * ask .slack ≤ ask .floor + 1) where
+  near-row-near : (v : ℕ) → NearAt g ask v (nearRow g (ask .slack) (ask .floor) a s r p v)
+  unfolding nearRow
+  near-row-near v = go p
+    where
+      go : (p : Bool) → NearAt g ask v (cond p (pairRow g (ask .slack) (ask .floor) s (bitAnd a (reachRow g r v)) v) (reachRow g r v))
+      go true = pair-row-near ok a s (reachRow g r v) h (reach-row-near ok r big)
+      go false = reach-row-near ok r big
 
--- so the table is
-pub written-filled : {g : List ℕ} {ask : Request} {s m : ℕ} {before t : List ℕ} (r p : Bool) → Pairing g ask s
-    → (r ≡ true → 2 * ask .slack ≤ ask .floor + 1) → length g ≤ m → Written (nearRow g (ask .slack) (ask .floor) s r p) m before t → Filled g ask before t
-written-filled r p h big all w =
-    record {
-      long = w .long;
-      low = λ v l. rw (w .rows v (le-trans l all)) (near-row-near v r p h big .low);
-      near = λ v x l i hv u hu ne. rw (w .rows v (le-trans l all)) (near-row-near v r p h big .near x i hv u hu ne);
-    }
+  -- so the table is
+  pub written-filled : {m : ℕ} {before t : List ℕ} → length g ≤ m → Written (nearRow g (ask .slack) (ask .floor) a s r p) m before t → Filled g ask before t
+  written-filled all w =
+      record {
+        long = w .long;
+        low = λ v l. rw (w .rows v (le-trans l all)) (near-row-near v .low);
+        near = λ v x l i hv u hu ne. rw (w .rows v (le-trans l all)) (near-row-near v .near x i hv u hu ne);
+      }

@@ -8,9 +8,10 @@ use lib.Dec.{T}
 use lib.ListN.{length, take, drop, replicate}
 use lib.Seq.{take-at, drop-at, drop-length}
 use Rattle.sets.specs.RangeLaws.{Mem}
-use Rattle.judging.specs.Request.{Request}
-use Rattle.judging.specs.Refusal.{refused, answered, firstOf, vertexCause, slackCause, floorCause, rowCause, edgeCause, graphCauses}
-use Rattle.judging.specs.Calls.{passed, requestCheck}
+use Rattle.sets.specs.Set.{size, full}
+use Rattle.judging.specs.Request.{Request, recorded}
+use Rattle.judging.specs.Refusal.{refused, answered, firstOf, vertexCause, slackCause, floorCause, rowCause, edgeCause, graphCauses, setCause}
+use Rattle.judging.specs.Calls.{passed, numberCheck, requestCheck}
 use Rattle.lists.specs.Listing.{listing, Listed}
 use Rattle.sets.specs.KeepLaws.{Rising}
 use Rattle.lists.specs.ListingLaws.{listing-rising, listing-sound, listing-complete, floor-above}
@@ -63,7 +64,7 @@ module _ (g : List ℕ) (ask : Request) where
   module _ (slots : List ℕ) {m : ℕ} (e : listReply g ask (length slots) ≡ refused 6 m) where
     -- none of the request's causes has number 6
     no-six : T (lacks 6 (requestCheck g ask))
-    unfolding requestCheck graphCauses vertexCause slackCause floorCause rowCause edgeCause lacks
+    unfolding requestCheck numberCheck setCause graphCauses vertexCause slackCause floorCause rowCause edgeCause lacks
     no-six = tt
 
     pub short-accepted : firstOf (requestCheck g ask) passed ≡ passed
@@ -106,8 +107,8 @@ module _ (g : List ℕ) (ask : Request) where
     pub zero-slots : (slots : List ℕ) → slotsAfter g ask slots ≡ slots
     zero-slots = none-slots (list-accepted room e) zero-none
 
-  -- so it is where the floor is above n
-  module _ (e : firstOf (requestCheck g ask) passed ≡ passed) (l : length g < ask .floor) where
+  -- so it is where the floor is above the number of vertices that are not silent
+  module _ (e : firstOf (requestCheck g ask) passed ≡ passed) (l : size (recorded ask (full (length g))) < ask .floor) where
     pub floor-above-reply : (room : ℕ) → listReply g ask room ≡ answered 0 tt
     floor-above-reply = none-reply e (floor-above g ask l)
 

@@ -1,9 +1,8 @@
 -- Laws of a sweep: each step takes a vertex v of those to take, adds what is found with v and the waiting candidates that v is adjacent to, and lets v wait.
 -- So a clique comes at the highest of its vertices that are to be taken.
 --
---   Joined g s m v j w                  j is s with v, and w are the vertices of m that v is adjacent to
 --   Step g s b m t v j r w b2 t2        one step takes v out of t: the candidates with v are r, and b and t become b2 and t2
---   Swept g ask have s b m t .. b2 t2 ..   a sweep on its way: b and t have become b2 and t2, and what was to be added so far is in the slots
+--   Swept g ask s b m t .. b2 t2 ..     a sweep on its way: b and t have become b2 and t2, and what was to be added so far is in the slots
 use Prim.Native.Nat.{ℕ, _+_, _-_, _^_, _≤_, _<_, min, max}
 use native.Mathlib.Omega.{arith}
 use native.Mathlib.Decide.{ℕ-discrete}
@@ -20,8 +19,7 @@ use Rattle.sets.specs.Words.{Lowest}
 use Rattle.sets.specs.BitLaws.{ext, bit-le, bit-and, bit-or, bit-minus}
 use Rattle.sets.specs.PointLaws.{bit-with, single-in, single-out, by-bit, none-out, none-by}
 use Rattle.sets.specs.RangeLaws.{or-cases, or-left, or-right, test-same}
-use Rattle.sets.specs.SubsetLaws.{sub-trans, sub-number, with-sub, with-same, with-below, sub-with, positive, positive-of}
-use Rattle.sets.specs.SizeLaws.{size-with}
+use Rattle.sets.specs.SubsetLaws.{sub-trans, sub-number, with-sub, with-same, sub-with, positive, positive-of}
 use Rattle.sets.specs.WalkLaws.{without-less}
 use Rattle.judging.specs.Request.{Request}
 use Rattle.judging.specs.Plex.{Plex}
@@ -30,8 +28,8 @@ use Rattle.lists.specs.PlacingLaws.{adds-none, adds-same, adds-both}
 use Rattle.search.specs.Found.{found, Found, AddsFound}
 use Rattle.search.specs.FoundLaws.{found-holds, found-test}
 use Rattle.search.specs.Cliques.{touched, Taking, Sweeping}
-use Rattle.search.specs.CliqueLaws.{clique-near, common-apart, common-vertex, common-out, common-clique, common-with}
-use Rattle.search.specs.CliqueLaws.{touched-holds, touched-test}
+use Rattle.search.specs.CliqueLaws.{clique-near, common-apart, common-vertex, touched-holds, touched-test}
+use Rattle.search.specs.TakeLaws.{Joined, joined, take-with}
 
 -- ---- pointwise
 
@@ -41,7 +39,39 @@ bit-taken s b r v u = rw (bit-or, bit-with, bit-and)
 bit-left : (x t v u : ℕ) → bit (bitAnd x (without t v)) u ≡ min (bit x u) (bit t u - bit (2 ^ v) u)
 bit-left x t v u = rw (bit-and, bit-minus)
 
--- ---- one step of a sweep: what is found with v and the candidates of b that v is adjacent to, and what is touched by the rest of t
+-- ---- one step of a sweep: v of t is taken, with the candidates of b that it is adjacent to, and waits from then on
+
+module _ {g : List ℕ} {s b m t : ℕ} (h : Sweeping g s b m t) (v : ℕ) (i : In v t) where
+  pub sweep-near : In v m
+  sweep-near = omega (arith, h .taking .part v, bit-or b t v, bit-le m v)
+
+  pub sweep-vertex : v < length g
+  sweep-vertex = common-vertex (h .taking .valid) (h .taking .common) v sweep-near
+
+  -- b with v and t without it
+  same : bitOr (with b v) (without t v) ≡ bitOr b t
+  same =
+      ext (bitOr (with b v) (without t v)) (bitOr b t) (λ u.
+      omega (arith, bit-or (with b v) (without t v) u, bit-or b t u, bit-with b v u, bit-minus t (2 ^ v) u, single-in t v u i, bit-le t u, bit-le b u))
+
+  left-sweeping : Sweeping g s (with b v) m (without t v)
+  left-sweeping =
+      record {
+        taking = rw same (h .taking);
+        apart = λ u. omega (arith, bit-with b v u, bit-minus t (2 ^ v) u, h .apart u, single-in t v u i, bit-le t u);
+      }
+
+  -- the candidates with v
+  taken-falls : bitAnd b (row g v) < bitOr b t
+  taken-falls =
+      omega (
+        arith,
+        sub-number (bitAnd b (row g v)) (without (bitOr b t) v) (λ u.
+            omega (arith, bit-and b (row g v) u, bit-minus (bitOr b t) (2 ^ v) u, bit-or b t u, single-out b v u (omega (arith, h .apart v)))),
+        without-less (bitOr b t) v (omega (arith, bit-or b t v, bit-le b v)),
+      )
+
+-- ---- what a step adds: what is found with v and the candidates of b that v is adjacent to, and what is touched by the rest of t
 
 abbrev first : List ℕ → Request → ℕ → ℕ → ℕ → ℕ → Bool
 first g ask s b v = found g ask (with s v) (bitAnd b (row g v))
@@ -49,7 +79,7 @@ first g ask s b v = found g ask (with s v) (bitAnd b (row g v))
 abbrev rest : List ℕ → Request → ℕ → ℕ → ℕ → ℕ → ℕ → Bool
 rest g ask s b t v = touched g ask s (with b v) (without t v)
 
-module _ {g : List ℕ} {ask : Request} {have s b m t : ℕ} (h : Sweeping g ask have s b m t) where
+module _ {g : List ℕ} (ask : Request) (one : ask .slack ≡ 1) {s b m t : ℕ} (h : Sweeping g s b m t) where
   -- nothing is left to be taken
   sweep-none : t ≡ 0 → (slots : List ℕ) (count : ℕ) → Adds (2 ^ length g) (touched g ask s b t) slots count slots count
   sweep-none z slots count =
@@ -57,48 +87,6 @@ module _ {g : List ℕ} {ask : Request} {have s b m t : ℕ} (h : Sweeping g ask
       omega (arith, touched-holds g ask s b t x l k .1, none-by (bitAnd x t) (λ u. omega (arith, bit-and x t u, none-out z u))))
 
   module _ (v : ℕ) (i : In v t) where
-    near : In v m
-    near = omega (arith, h .taking .part v, bit-or b t v, bit-le m v)
-
-    pub sweep-vertex : v < length g
-    sweep-vertex = common-vertex (h .taking .valid) (h .taking .common) v near
-
-    -- b with v and t without it
-    same : bitOr (with b v) (without t v) ≡ bitOr b t
-    same =
-        ext (bitOr (with b v) (without t v)) (bitOr b t) (λ u.
-        omega (arith, bit-or (with b v) (without t v) u, bit-or b t u, bit-with b v u, bit-minus t (2 ^ v) u, single-in t v u i, bit-le t u, bit-le b u))
-
-    left-sweeping : Sweeping g ask have s (with b v) m (without t v)
-    left-sweeping =
-        record {
-          taking = rw same (h .taking);
-          apart = λ u. omega (arith, bit-with b v u, bit-minus t (2 ^ v) u, h .apart u, single-in t v u i, bit-le t u);
-        }
-
-    -- the candidates with v
-    taken-falls : bitAnd b (row g v) < bitOr b t
-    taken-falls =
-        omega (
-          arith,
-          sub-number (bitAnd b (row g v)) (without (bitOr b t) v) (λ u.
-              omega (arith, bit-and b (row g v) u, bit-minus (bitOr b t) (2 ^ v) u, bit-or b t u, single-out b v u (omega (arith, h .apart v)))),
-          without-less (bitOr b t) v (omega (arith, bit-or b t v, bit-le b v)),
-        )
-
-    taken-taking : Taking g ask (have + 1) (with s v) (bitAnd b (row g v)) (bitAnd m (row g v))
-    taken-taking =
-        record {
-          most = h .taking .most;
-          valid = h .taking .valid;
-          slack = h .taking .slack;
-          below = with-below (length g) s v (h .taking .below) sweep-vertex;
-          counted = omega (arith, h .taking .counted, size-with s v (common-out (h .taking .valid) (h .taking .common) v near));
-          clique = common-clique (h .taking .valid) (h .taking .common) v near (h .taking .below) (h .taking .clique);
-          common = common-with (h .taking .common) v;
-          part = λ u. omega (arith, bit-and b (row g v) u, bit-and m (row g v) u, h .taking .part u, bit-or b t u);
-        }
-
     -- what is touched by t has v and nothing else of t, or is touched by the rest of t
     module _ (x : ℕ) where
       taken : Found g ask s (bitOr b t) x → In v x → bitAnd x (without t v) ≡ 0 → Found g ask (with s v) (bitAnd b (row g v)) x
@@ -109,7 +97,7 @@ module _ {g : List ℕ} {ask : Request} {have s b m t : ℕ} (h : Sweeping g ask
 
           within : (u : ℕ) → bit x u ≤ bit (bitOr (with s v) (bitAnd b (row g v))) u
           within u =
-              let clique : Plex g 1 x = rw (h .taking .slack) at (f .listed .top .0) in
+              let clique : Plex g 1 x = rw one at (f .listed .top .0) in
               omega (arith, waits u, clique-near g (h .taking .valid) x v (f .listed .below) clique j u, bit-taken s b (row g v) v u, bit-le x u)
 
       given : Found g ask (with s v) (bitAnd b (row g v)) x → Found g ask s (bitOr b t) x
@@ -153,7 +141,7 @@ module _ {g : List ℕ} {ask : Request} {have s b m t : ℕ} (h : Sweeping g ask
             touched-test g ask s b t x (given x f) (positive (bitAnd x t) v (omega (arith, bit-and x t v, f .lower v, with-same s v, bit-le x v)))
         back (inr y) =
             let w = touched-holds g ask s (with b v) (without t v) x l y in
-            touched-test g ask s b t x (rw same at (w .0)) (omega (arith, fewer x))
+            touched-test g ask s b t x (rw (same h v i) at (w .0)) (omega (arith, fewer x))
 
         into : Found g ask s (bitOr b t) x → 0 < bitAnd x t → Dec (bitAnd x (without t v) ≡ 0) → T (union (first g ask s b v) (rest g ask s b t v) x)
         into f k (yes z) =
@@ -161,7 +149,7 @@ module _ {g : List ℕ} {ask : Request} {have s b m t : ℕ} (h : Sweeping g ask
             (found-test g ask (with s v) (bitAnd b (row g v)) x (taken x f (only x z k) z))
         into f k (no n) =
             or-right (first g ask s b v x) (rest g ask s b t v x)
-            (touched-test g ask s (with b v) (without t v) x (rw same f) (positive-of (bitAnd x (without t v)) n))
+            (touched-test g ask s (with b v) (without t v) x (rw (same h v i) f) (positive-of (bitAnd x (without t v)) n))
 
     sweep-adds : (before between after : List ℕ) (count n o : ℕ) → Adds (2 ^ length g) (first g ask s b v) before count between n
         → Adds (2 ^ length g) (rest g ask s b t v) between n after o → Adds (2 ^ length g) (touched g ask s b t) before count after o
@@ -170,13 +158,6 @@ module _ {g : List ℕ} {ask : Request} {have s b m t : ℕ} (h : Sweeping g ask
         (adds-both (2 ^ length g) (first g ask s b v) (rest g ask s b t v) before between after count n o sweep-apart x y)
 
 -- ---- the step as the code takes it
-
-pub record Joined (g : List ℕ) (s m v j w : ℕ) : Type 0 where
-  pub clique : j ≡ with s v
-  pub beside : w ≡ bitAnd m (row g v)
-
-pub joined : {g : List ℕ} {s m v j r w : ℕ} → j ≡ with s v → r ≡ row g v → w ≡ bitAnd m r → Joined g s m v j w
-joined {m = m} e er ew = record { clique = e; beside = ew ∙ ap (bitAnd m) er }
 
 pub record Step (g : List ℕ) (s b m t v j r w b2 t2 : ℕ) : Type 0 where
   pub member : In v t
@@ -189,36 +170,39 @@ pub step : {g : List ℕ} {s b m t v y j r w b2 t2 : ℕ} → Lowest t v → y �
     → t2 ≡ without t v → b2 ≡ with b v → Step g s b m t v j r w b2 t2
 step {b = b} low ey ej er ew et eb = record { member = low .member; joined = joined ej ey ew; inside = er ∙ ap (bitAnd b) ey; waiting = eb; left = et }
 
-module _ {g : List ℕ} {ask : Request} {have s b m t v j r w b2 t2 : ℕ} (h : Sweeping g ask have s b m t) (d : Step g s b m t v j r w b2 t2) where
-  pub step-taking : Taking g ask (have + 1) j r w
-  step-taking = rw (d .joined .clique, d .joined .beside, d .inside) (taken-taking h v (d .member))
+pub step-taking : {g : List ℕ} {s b m t v j r w b2 t2 : ℕ} → Sweeping g s b m t → Step g s b m t v j r w b2 t2 → Taking g j r w
+step-taking {g} {s} {b} {m} {t} {v} h d =
+    take-with (h .taking) (sweep-near h v (d .member)) (d .joined) (rw (d .inside, d .joined .beside) (λ u.
+    omega (arith, bit-and b (row g v) u, bit-and m (row g v) u, h .taking .part u, bit-or b t u)))
 
 -- ---- a sweep on its way
 
-pub record Swept (g : List ℕ) (ask : Request) (have s b m t : ℕ) (before : List ℕ) (count b2 t2 : ℕ) (after : List ℕ) (n : ℕ) : Type 0 where
-  pub sweeping : Sweeping g ask have s b2 m t2
+pub record Swept (g : List ℕ) (ask : Request) (s b m t : ℕ) (before : List ℕ) (count b2 t2 : ℕ) (after : List ℕ) (n : ℕ) : Type 0 where
+  pub one : ask .slack ≡ 1
+  pub sweeping : Sweeping g s b2 m t2
   pub same : bitOr b2 t2 ≡ bitOr b t
   pub onward : (last : List ℕ) (o : ℕ) → Adds (2 ^ length g) (touched g ask s b2 t2) after n last o
       → Adds (2 ^ length g) (touched g ask s b t) before count last o
 
-pub swept-none : {g : List ℕ} {ask : Request} {have s b m t : ℕ} → Sweeping g ask have s b m t → (slots : List ℕ) (count : ℕ)
-    → Swept g ask have s b m t slots count b t slots count
-swept-none h slots count = record { sweeping = h; same = refl; onward = λ last o x. x }
+pub swept-none : {g : List ℕ} (ask : Request) {s b m t : ℕ} → ask .slack ≡ 1 → Sweeping g s b m t → (slots : List ℕ) (count : ℕ)
+    → Swept g ask s b m t slots count b t slots count
+swept-none ask one h slots count = record { one = one; sweeping = h; same = refl; onward = λ last o x. x }
 
-module _ {g : List ℕ} {ask : Request} {have s b m t : ℕ} {before : List ℕ} {count b2 t2 : ℕ} {after : List ℕ} {n : ℕ}
-    (k : Swept g ask have s b m t before count b2 t2 after n) where
+module _ {g : List ℕ} {ask : Request} {s b m t : ℕ} {before : List ℕ} {count b2 t2 : ℕ} {after : List ℕ} {n : ℕ}
+    (k : Swept g ask s b m t before count b2 t2 after n) where
   pub swept-all : t2 ≡ 0 → Adds (2 ^ length g) (touched g ask s b t) before count after n
-  swept-all z = k .onward after n (sweep-none (k .sweeping) z after n)
+  swept-all z = k .onward after n (sweep-none ask (k .one) (k .sweeping) z after n)
 
   module _ {v j r w b3 t3 : ℕ} (d : Step g s b2 m t2 v j r w b3 t3) where
     pub swept-falls : r < bitOr b t
     swept-falls = rw (d .inside, ← k .same) (taken-falls (k .sweeping) v (d .member))
 
-    pub swept-more : {last : List ℕ} {o : ℕ} → AddsFound g ask j r after n last o → Swept g ask have s b m t before count b3 t3 last o
+    pub swept-more : {last : List ℕ} {o : ℕ} → AddsFound g ask j r after n last o → Swept g ask s b m t before count b3 t3 last o
     swept-more {last} {o} x =
         rw (d .waiting, d .left) (record {
+          one = k .one;
           sweeping = left-sweeping (k .sweeping) v (d .member);
           same = same (k .sweeping) v (d .member) ∙ k .same;
           onward = λ end p y.
-              k .onward end p (sweep-adds (k .sweeping) v (d .member) after last end n o p (rw (d .joined .clique, d .inside) at x) y);
+              k .onward end p (sweep-adds ask (k .one) (k .sweeping) v (d .member) after last end n o p (rw (d .joined .clique, d .inside) at x) y);
         })

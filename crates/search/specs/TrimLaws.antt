@@ -114,7 +114,7 @@ module _ {g : List ℕ} {s c v : ℕ} (h : Trimmable g s c v) where
   -- one after the other
   pub still-trimmable : {k d : ℕ} → DropsBlocked g k s v c d → Trimmable g s d v
   still-trimmable {k} {d} a =
-      let part = a .kept (request k 0) refl .part in
+      let part = a .kept (request k 0 0) refl .part in
       record {
         most = h .most;
         valid = h .valid;

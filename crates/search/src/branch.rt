@@ -2,11 +2,10 @@
 ghost use Prim.Native.Nat.{_^_};
 ghost use lib.ListN.{length};
 ghost use Rattle.sets.specs.Words.{mask, masks};
-ghost use Rattle.judging.specs.Request.{request};
 ghost use Rattle.judging.specs.Plex.{extendable};
 ghost use Rattle.search.specs.Found.{AddsFound};
 ghost use Rattle.lists.specs.Placing.{Adds, unless};
-ghost use Rattle.search.specs.Ready.{Ready, LeafReady};
+ghost use Rattle.search.specs.Ready.{lowered, Branching, LeafReady};
 use sets::Set;
 
 // Places the plex a, unless a vertex can be added to it.
@@ -22,12 +21,14 @@ fn leaf(rows: &[u64], k: usize, a: Set, free: Set, slots: &mut [u64], count: usi
 }
 
 // Places every listed plex that holds s and has no member outside s and c, and gives the new count.
+// Silent vertices do not count at the floor: q is the floor with the silent members of s, so that each that joins raises it by one.
 // The switches are the partition bound, the extension test and the second bound; candidates are sifted by pairs for the next `few` vertices taken.
 pub fn branch(
     rows: &[u64],
     near: &[u64],
     k: usize,
     q: usize,
+    silent: Set,
     parted: bool,
     extension: bool,
     second: bool,
@@ -37,12 +38,12 @@ pub fn branch(
     slots: &mut [u64],
     count: usize,
 ) -> usize
-    requires { ⌜ Ready (masks (now rows)) (masks (now near)) (request k q) (mask s) (mask c) ⌝ }
-    ensures { λ r. ⌜ AddsFound (masks (now (rows .entry))) (request k q) (mask s) (mask c)
+    requires { ⌜ Branching (masks (now rows)) (masks (now near)) k q (mask silent) (mask s) (mask c) ⌝ }
+    ensures { λ r. ⌜ AddsFound (masks (now (rows .entry))) (lowered k q (mask silent) (mask s)) (mask s) (mask c)
         (masks (now (slots .entry))) count (masks (now (slots .exit))) r ⌝ }
 {
     let a = sets::join(s, c);
-    if crate::cut::is_short(rows, k, q, parted, s, a) {
+    if crate::cut::is_low(rows, k, q, silent, parted, s, a) {
         return count;
     }
     let seen = judging::survey::survey(rows, k, a);
@@ -59,14 +60,17 @@ pub fn branch(
         return count;
     }
     let v = crate::choice::pick(rows, a, from);
+    let next = q + sets::indicator(silent, v);
     let rest = sets::without(c, v);
     let close = crate::trim::beside(rows, near, k, s, c, v);
-    let kept = crate::trim::sift(rows, k, q, few, s, c, v, close);
+    let counted = sets::minus(close, silent);
+    let kept = crate::trim::sift(rows, k, next, few, s, c, v, close, counted);
     let others = branch(
         rows,
         near,
         k,
         q,
+        silent,
         parted,
         extension,
         second,
@@ -76,7 +80,7 @@ pub fn branch(
         slots,
         count,
     );
-    if crate::cut::is_bounded(rows, k, q, second, s, kept, v) {
+    if crate::cut::is_bounded(rows, k, next, silent, second, s, kept, v) {
         return others;
     }
     let joined = sets::with(s, v);
@@ -84,7 +88,8 @@ pub fn branch(
         rows,
         near,
         k,
-        q,
+        next,
+        silent,
         parted,
         extension,
         second,

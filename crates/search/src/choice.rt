@@ -16,7 +16,7 @@ pub fn among(rows: &[u64], c: Set, w: usize) -> Set
 }
 
 // The member of s that misses most of a, the lowest on a tie.
-pub fn pick(rows: &[u64], a: Set, s: Set) -> usize
+fn farthest(rows: &[u64], a: Set, s: Set) -> usize
     requires { ⌜ Pickable (masks (now rows)) (mask s) ⌝ }
     ensures { λ r. ⌜ In r (mask s) ⌝ }
 {
@@ -33,4 +33,16 @@ pub fn pick(rows: &[u64], a: Set, s: Set) -> usize
         }
     }
     best
+}
+
+// The same. Mostly there is one alone, and nothing is counted.
+pub fn pick(rows: &[u64], a: Set, s: Set) -> usize
+    requires { ⌜ Pickable (masks (now rows)) (mask s) ⌝ }
+    ensures { λ r. ⌜ In r (mask s) ⌝ }
+{
+    let first = sets::lowest(s);
+    if sets::is_empty(sets::rest(s, first)) {
+        return first;
+    }
+    farthest(rows, a, s)
 }

@@ -2,14 +2,15 @@
 ghost use mathlib.Core.Path.{_≡_};
 ghost use mathlib.Core.Bool.{true, false};
 ghost use Prim.Native.Nat.{_≤_};
+ghost use lib.Bits.{bitAnd};
 ghost use lib.Dec.{T};
-ghost use Rattle.sets.specs.Set.{size, with};
+ghost use Rattle.sets.specs.Set.{size, with, minus};
 ghost use Rattle.sets.specs.Words.{mask, masks};
-ghost use Rattle.judging.specs.Request.{request};
 ghost use Rattle.judging.specs.Plex.{unblocked, extendable};
 ghost use Rattle.bounds.specs.BoundSetting.{Boundable};
-ghost use Rattle.search.specs.Found.{Short, Empty};
+ghost use Rattle.search.specs.Found.{Short, Lacks, Empty};
 ghost use Rattle.search.specs.Partition.{Between};
+ghost use Rattle.search.specs.Ready.{lowered};
 use sets::Set;
 
 // Is the partition bound asked? Once s is within two members of the floor nearly every branch lists something, and the bound costs more than it cuts.
@@ -31,6 +32,24 @@ pub fn is_short(rows: &[u64], k: usize, q: usize, parted: bool, s: Set, a: Set) 
     false
 }
 
+// Has every plex between s and a too few members that are not silent? The silent candidates do not count, and q is the floor with the silent members of s.
+pub(crate) fn is_low(
+    rows: &[u64],
+    k: usize,
+    q: usize,
+    silent: Set,
+    parted: bool,
+    s: Set,
+    a: Set,
+) -> bool
+    requires { ⌜ Between (masks (now rows)) (mask s) (mask a) × (size (bitAnd (mask s) (mask silent)) ≤ q) ⌝ }
+    ensures { λ r. ⌜ (r ≡ true → Lacks (masks (now (rows .entry))) (lowered k q (mask silent) (mask s)) (mask s) (mask a))
+        × (r ≡ false → lowered k q (mask silent) (mask s) .floor ≤ size (minus (mask a) (mask silent))) ⌝ }
+{
+    let counted = sets::join(s, sets::minus(a, silent));
+    is_short(rows, k, q, parted, s, counted)
+}
+
 // Can a vertex outside a be added to every plex inside a? The vertices that no member of a blocks are given.
 pub(crate) fn is_extendable(rows: &[u64], k: usize, extension: bool, a: Set, free: Set) -> bool
     requires { ⌜ mask free ≡ unblocked (masks (now rows)) k (mask a) ⌝ }
@@ -42,21 +61,24 @@ pub(crate) fn is_extendable(rows: &[u64], k: usize, extension: bool, a: Set, fre
     false
 }
 
-// Has no listed plex that holds s and v, and no vertex outside s, v and c, at least q members: by the second bound?
+// Has no listed plex that holds s and v, and no vertex outside s, v and c, enough members that are not silent: by the second bound? The silent candidates do
+// not count, and q is the floor with the silent ones of s and v.
 pub(crate) fn is_bounded(
     rows: &[u64],
     k: usize,
     q: usize,
+    silent: Set,
     second: bool,
     s: Set,
     c: Set,
     v: usize,
 ) -> bool
-    requires { ⌜ Boundable (masks (now rows)) k (mask s) (with (mask c) v) v ⌝ }
-    ensures { λ r. ⌜ (r ≡ true → Empty (masks (now (rows .entry))) (request k q) (with (mask s) v) (mask c)) ⌝ }
+    requires { ⌜ Boundable (masks (now rows)) k (mask s) (with (mask c) v) v × (size (bitAnd (with (mask s) v) (mask silent)) ≤ q) ⌝ }
+    ensures { λ r. ⌜ (r ≡ true → Empty (masks (now (rows .entry))) (lowered k q (mask silent) (with (mask s) v)) (with (mask s) v) (mask c)) ⌝ }
 {
     if second {
-        return bounds::bound::second_bound(rows, k, s, sets::with(c, v), v) < q;
+        let counted = sets::with(sets::minus(c, silent), v);
+        return bounds::bound::second_bound(rows, k, s, counted, v) < q;
     }
     false
 }

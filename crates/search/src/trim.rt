@@ -1,10 +1,11 @@
 // Candidates that no listed plex holds beside the set s, to which v came last, are dropped.
 ghost use Rattle.sets.specs.Words.{mask, masks};
-ghost use Rattle.judging.specs.Request.{Request, request};
+ghost use Rattle.judging.specs.Request.{Request};
 ghost use Rattle.search.specs.Trim.{Trimmable, DropsBlocked, DropsMissing, Joinable, Beside};
-ghost use Rattle.search.specs.Sift.{Siftable};
+ghost use Rattle.search.specs.Sift.{Siftable, Counted};
 ghost use Rattle.search.specs.Found.{Near};
 ghost use Prim.Native.Nat.{_-_};
+ghost use Rattle.sets.specs.Set.{with};
 ghost use mathlib.Core.Path.{_≡_};
 use sets::Set;
 
@@ -52,8 +53,8 @@ pub fn beside(rows: &[u64], near: &[u64], k: usize, s: Set, c: Set, v: usize) ->
     drop_missing(rows, k, joined, drop_blocked(rows, k, joined, close, v), v)
 }
 
-// Of `close`, which is what `beside` left, those that have enough common neighbours with v among s, v and `close` itself (001, Lemma 3). This drops
-// many while few vertices are taken, and later it costs more than it saves: it is done for the next `few` of them.
+// Of `close`, which is what `beside` left, those that have enough common neighbours with v among s, v and `counted`, the part of `close` that is not silent
+// (001, Lemma 3). This drops many while few vertices are taken, and later it costs more than it saves: it is done for the next `few` of them.
 pub fn sift(
     rows: &[u64],
     k: usize,
@@ -63,14 +64,17 @@ pub fn sift(
     c: Set,
     v: usize,
     close: Set,
+    counted: Set,
 ) -> Set
-    requires { ⌜ Siftable (masks (now rows)) (request k q) (mask s) (mask c) v (mask close) ⌝ }
-    ensures { λ r. ⌜ Beside (masks (now (rows .entry))) (request k q) (mask s) (mask c) v (mask r) ⌝ }
+    requires { ⌜ Siftable (masks (now rows)) k q (mask s) (mask c) v (mask close) (mask counted) ⌝ }
+    ensures { λ r. ⌜ ((ask : Request) → ask .slack ≡ k → Counted ask q (with (mask s) v) (mask close) (mask counted)
+        → Beside (masks (now (rows .entry))) ask (mask s) (mask c) v (mask close)
+        → Beside (masks (now (rows .entry))) ask (mask s) (mask c) v (mask r)) ⌝ }
 {
     if few == 0 {
         return close;
     }
-    let all = sets::join(sets::with(s, v), close);
+    let all = sets::join(sets::with(s, v), counted);
     crate::near::pair_row(rows, k, q, all, close, v)
 }
 

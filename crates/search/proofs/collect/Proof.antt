@@ -25,10 +25,10 @@ abbrev found : tie.After-enumerate → ℕ
 found c = c .enumerate .result
 
 abbrev filled : tie.After-enumerate → List ℕ
-filled c = c .enumerate .last .1 .1 .1 .1 .1 .0
+filled c = c .enumerate .last .1 .1 .1 .1 .1 .1 .0
 
 abbrev start : tie.After-enumerate → tie.Start
-start c = c .before .before .before .before
+start c = c .before .before .before .before .before
 
 -- the list fits
 room-fits : (c : tie.Else1) → found (searched (c .before)) ≤ length (masks (filled (searched (c .before))))
@@ -59,7 +59,7 @@ same-length-2 c =
     let sorted = c .before .before in
     let lent = sorted .before .before in
     let at = ended lent in
-    length-front (filled at) (sorted .sort .last .0) (lent .offset .result) (sorted .sort .kept .0) ∙ at .enumerate .kept .1 .1 .1 .1 .1 .0
+    length-front (filled at) (sorted .sort .last .0) (lent .offset .result) (sorted .sort .kept .0) ∙ at .enumerate .kept .1 .1 .1 .1 .1 .1 .0
 
 returns-2 : tie.Need-returns-2
 returns-2 c =

@@ -11,23 +11,22 @@ use Rattle.judging.specs.Request.{asked}
 use Rattle.judging.specs.Refusal.{firstOf}
 use Rattle.judging.specs.Calls.{passed, checkedReply, requestCheck}
 use Rattle.judging.specs.CallLaws.{none-holds}
-use Rattle.search.specs.StartLaws.{accepted-searchable}
 use Rattle.search.specs.CallLaws.{accepted-holds, list-refused, list-fits, list-short}
 use Rattle.search.proofs.list_with.Statement.{statement}
 use Rattle.search.proofs.list_with.Tie as tie
 
 -- ---- places: the candidates are found, the list is collected, the slots are counted
 
-abbrev found : tie.After-collect → tie.After-candidates
+abbrev found : tie.After-collect → tie.After-starting
 found c = c .before .before
 
-abbrev start : tie.After-candidates → tie.Start
+abbrev start : tie.After-starting → tie.Start
 start c = c .before .before .before .before .before .before
 
 abbrev collected : tie.After-count → tie.After-collect
 collected c = c .before .before .before .before
 
-checks-passed : (c : tie.After-candidates) → firstOf (requestCheck (masks (now (start c .args .rows))) (asked (start c .args .request))) passed ≡ passed
+checks-passed : (c : tie.After-starting) → firstOf (requestCheck (masks (now (start c .args .rows))) (asked (start c .args .request))) passed ≡ passed
 checks-passed c = none-holds _ _ (c .before .before .before .check-request .ensures) (c .before .enum-told .given .1)
 
 -- there are as many slots as before
@@ -43,12 +42,12 @@ returns c =
     let failed = c .before .checked .given in
     list-refused _ _ (failed .0 .0) _ (sym (c .before .before .before .check-request .ensures) ∙ ap checkedReply (failed .1))
 
-candidates-requires : tie.Need-candidates-requires
-candidates-requires c κs =
-    accepted-searchable (accepted-holds _ _ (none-holds _ _ (c .before .before .check-request .ensures) (c .enum-told .given .1)))
+starting-requires : tie.Need-starting-requires
+starting-requires c κs =
+    accepted-holds _ _ (none-holds _ _ (c .before .before .check-request .ensures) (c .enum-told .given .1))
 
 collect-requires : tie.Need-collect-requires
-collect-requires c κs = (accepted-holds _ _ (checks-passed (c .before)), c .before .candidates .ensures)
+collect-requires c κs = (accepted-holds _ _ (checks-passed (c .before)), c .before .starting .ensures)
 
 returns-2 : tie.Need-returns-2
 returns-2 c =
@@ -65,5 +64,5 @@ returns-3 c =
 pub list-with-spec : {M : Type 1} → statement M
 list-with-spec =
     tie.close
-    (tie.spec (λ c κs. search needs) (λ c. search needs) returns (λ c. search needs) candidates-requires collect-requires (λ c κs. search needs)
+    (tie.spec (λ c κs. search needs) (λ c. search needs) returns (λ c. search needs) starting-requires collect-requires (λ c κs. search needs)
     (λ c κs. search needs) (λ c. search needs) returns-2 (λ c. search needs) returns-3)

@@ -1,6 +1,7 @@
--- A sweep adds what each vertex to take adds in turn. A clique adds what its end adds where at most two candidates are left, and else what a sweep over
--- the candidates of a pivot adds. The measure is the candidates, which fall when a vertex is taken.
-use Prim.Native.Nat.{ℕ, _+_, _*_, _^_, _<_}
+-- A sweep adds what each vertex to take adds in turn. A clique adds nothing where too few candidates are left, what the search without a floor adds where any
+-- candidate is enough, and else what its end with two candidates or a sweep over the candidates of a pivot adds. The measure is the candidates, which fall
+-- when a vertex is taken.
+use Prim.Native.Nat.{ℕ, _+_, _*_, _^_, _≤_, _<_}
 use borrow.Fn.Kinds.{In}
 use borrow.Fn.PlainCycle.{Measures, is, falls, and}
 use mathlib.Core.Path.{_≡_, refl, _∙_}
@@ -8,15 +9,18 @@ use mathlib.Core.Logic.{_≢_}
 use native.Mathlib.Omega.{arith}
 use borrow.Author.Needs.{needs}
 use denote.Ref.{now}
-use lib.Bits.{bitOr}
+use lib.Bits.{bitAnd, bitOr}
 use lib.ListN.{length}
-use Rattle.judging.specs.Request.{request}
-use Rattle.sets.specs.Set.{with}
+use Rattle.sets.specs.Set.{size, with, minus}
 use Rattle.sets.specs.Words.{mask, masks}
-use Rattle.sets.specs.WalkLaws.{walk-falls, walk-goes-on, walk-over, empty-holds, empty-fails}
+use Rattle.sets.specs.BitLaws.{bit-le}
+use Rattle.sets.specs.WalkLaws.{walk-falls, walk-goes-on, walk-over, empty-holds}
+use Rattle.judging.specs.Request.{Request}
+use Rattle.search.specs.Cliques.{needing}
 use Rattle.search.specs.SweepLaws.{sweep-vertex, Step, step, step-taking, Swept, swept-none, swept-falls, swept-more, swept-all}
-use Rattle.search.specs.TakeLaws.{take-fits, few-adds, take-pickable, take-same, take-adds, cover-candidates, cover-sweeping, cover-adds}
-use Rattle.search.specs.EndLaws.{one-left, two-left}
+use Rattle.search.specs.TakeLaws.{take-pickable, take-same, take-adds, cover-candidates, cover-sweeping, cover-adds}
+use Rattle.search.specs.EndLaws.{two-left}
+use Rattle.search.specs.FloorLaws.{need-few, need-enough, step-adds, some-candidate, second-candidate}
 use Rattle.search.proofs.cliques.sweep.Reads as sweep
 use Rattle.search.proofs.cliques.sweep.Kinds as sweep-kinds
 use Rattle.search.proofs.cliques.+sweep+take.Lts-sweep as sweep-lts
@@ -24,12 +28,12 @@ use Rattle.search.proofs.cliques.take.Reads as take
 use Rattle.search.proofs.cliques.take.Kinds as take-kinds
 use Rattle.search.proofs.cliques.+sweep+take.Lts-take as take-lts
 use Rattle.search.proofs.cliques.agenda.Reads as agenda-reads
-use Rattle.search.proofs.cliques.end.Reads as end-reads
-use Rattle.search.proofs.cliques.is_far.Reads as is-far-reads
 use Rattle.search.proofs.cliques.end_pair.Reads as end-pair-reads
-use Rattle.search.proofs.cliques.end_with.Reads as end-with-reads
+use Rattle.search.proofs.cliques.is_enough.Reads as is-enough-reads
 use Rattle.search.proofs.cliques.is_few.Reads as is-few-reads
+use Rattle.search.proofs.free.start.Reads as start-reads
 use Rattle.sets.proofs.get.Reads as get-reads
+use Rattle.sets.proofs.indicator.Reads as indicator-reads
 use Rattle.sets.proofs.is_empty.Reads as is-empty-reads
 use Rattle.sets.proofs.lowest.Reads as lowest-reads
 use Rattle.sets.proofs.meet.Reads as meet-reads
@@ -58,12 +62,12 @@ abbrev take-below : ℕ → In 2 take-kinds.ps
 take-below t = and 2 take-kinds.ps (falls 2 take-kinds.ps _<_ μ-take t) take.Pre
 
 abbrev Inv-loop : sweep-lts.InvT-loop
-Inv-loop rows q have s m slots₀ count more waiting₀ left₀ n₀ slots waiting left n =
-    Swept (masks rows) (request 1 q) have (mask s) (mask waiting₀) (mask m) (mask left₀) (masks slots₀) count
+Inv-loop rows need silent s m slots₀ count waiting₀ left₀ n₀ slots waiting left n =
+    Swept (masks rows) (needing (mask silent) need (mask s)) (mask s) (mask waiting₀) (mask m) (mask left₀) (masks slots₀) count
     (mask waiting) (mask left) (masks slots) n × (length slots ≡ length slots₀)
 
 abbrev μ-loop : sweep-lts.MeasureT-loop
-μ-loop rows q have s m slots₀ count more waiting₀ left₀ n₀ slots waiting left n = mask left
+μ-loop rows need silent s m slots₀ count waiting₀ left₀ n₀ slots waiting left n = mask left
 
 -- what the callees ask and give
 abbrev sweep-calls : ℕ → sweep-lts.Claims
@@ -80,28 +84,28 @@ sweep-calls t = (
   meet-reads.Learnt,
   rest-reads.Asked,
   rest-reads.Learnt,
+  indicator-reads.Asked,
+  indicator-reads.Learnt,
   take-below t,
   take.Post,
 )
 
 abbrev take-calls : ℕ → take-lts.Claims
 take-calls t = (
-  is-empty-reads.Asked,
-  is-empty-reads.Learnt,
-  end-reads.Asked,
-  end-reads.Learnt,
   is-few-reads.Asked,
   is-few-reads.Learnt,
+  is-enough-reads.Asked,
+  is-enough-reads.Learnt,
+  start-reads.Asked,
+  start-reads.Learnt,
   lowest-reads.Asked,
   lowest-reads.Learnt,
   rest-reads.Asked,
   rest-reads.Learnt,
-  end-with-reads.Asked,
-  end-with-reads.Learnt,
+  is-empty-reads.Asked,
+  is-empty-reads.Learnt,
   end-pair-reads.Asked,
   end-pair-reads.Learnt,
-  is-far-reads.Asked,
-  is-far-reads.Learnt,
   agenda-reads.Asked,
   agenda-reads.Learnt,
   minus-reads.Asked,
@@ -146,11 +150,8 @@ module _ (t : ℕ) where
       → c .lowest .result < length (masks (now (entry (c .before .before .before) .args .rows)))
   vertex c = sweep-vertex (c .before .before .before .loop .inv .0 .sweeping) _ (c .lowest .ensures .member)
 
-  sweep-add-more : sweep-lts.Need-add-more (sweep-calls t) (sweep-at t) sweep.Post Inv-loop μ-loop
-  sweep-add-more c = omega (arith, take-fits (c .before .before .pre .1 .taking))
-
   sweep-loop-holds : sweep-lts.Need-loop-holds (sweep-calls t) (sweep-at t) sweep.Post Inv-loop μ-loop
-  sweep-loop-holds c = (swept-none (c .before .before .pre .1) _ _, refl)
+  sweep-loop-holds c = (swept-none _ refl (c .before .before .pre .1 .0) _ _, refl)
 
   sweep-lowest-requires : sweep-lts.Need-lowest-requires (sweep-calls t) (sweep-at t) sweep.Post Inv-loop μ-loop
   sweep-lowest-requires c κs = walk-goes-on (c .before .is-empty .ensures) (c .if1 .taken)
@@ -161,7 +162,7 @@ module _ (t : ℕ) where
   sweep-with-requires : sweep-lts.Need-with-requires (sweep-calls t) (sweep-at t) sweep.Post Inv-loop μ-loop
   sweep-with-requires c κs =
       let turn = c .before .before .before .before in
-      omega (arith, vertex (c .before), entry turn .pre .1 .taking .most)
+      omega (arith, vertex (c .before), entry turn .pre .1 .0 .taking .most)
 
   sweep-rest-requires : sweep-lts.Need-rest-requires (sweep-calls t) (sweep-at t) sweep.Post Inv-loop μ-loop
   sweep-rest-requires c κs = c .before .before .before .before .lowest .ensures
@@ -169,23 +170,41 @@ module _ (t : ℕ) where
   sweep-with-requires-2 : sweep-lts.Need-with-requires-2 (sweep-calls t) (sweep-at t) sweep.Post Inv-loop μ-loop
   sweep-with-requires-2 c κs =
       let lowest = c .before .before .before .before .before in
-      omega (arith, vertex lowest, entry (lowest .before .before .before) .pre .1 .taking .most)
+      omega (arith, vertex lowest, entry (lowest .before .before .before) .pre .1 .0 .taking .most)
+
+  sweep-sub-fewer : sweep-lts.Need-sub-fewer (sweep-calls t) (sweep-at t) sweep.Post Inv-loop μ-loop
+  sweep-sub-fewer c = entry (turn c) .pre .1 .1
+
+  sweep-indicator-requires : sweep-lts.Need-indicator-requires (sweep-calls t) (sweep-at t) sweep.Post Inv-loop μ-loop
+  sweep-indicator-requires c κs = omega (arith, vertex (joined c .before .before), entry (turn c) .pre .1 .0 .taking .most)
+
+  sweep-add-fewer : sweep-lts.Need-add-fewer (sweep-calls t) (sweep-at t) sweep.Post Inv-loop μ-loop
+  sweep-add-fewer c =
+      let at = entry (turn (c .before)) in
+      let v = joined (c .before) .before .before .lowest .result in
+      omega (arith, at .fits .need, at .pre .1 .1, c .indicator .ensures, bit-le (mask (at .args .silent)) v)
 
   sweep-take-requires : sweep-lts.Need-take-requires (sweep-calls t) (sweep-at t) sweep.Post Inv-loop μ-loop
   sweep-take-requires c κs =
-      let held = turn (c .before) .loop .inv .0 in
-      (omega (arith, swept-falls held (moved (c .before)), entry (turn (c .before)) .pre .0), step-taking (held .sweeping) (moved (c .before)))
+      let at = c .before .before in
+      let held = turn at .loop .inv .0 in
+      (omega (arith, swept-falls held (moved at), entry (turn at) .pre .0), step-taking (held .sweeping) (moved at))
 
   sweep-loop-less : sweep-lts.Need-loop-less (sweep-calls t) (sweep-at t) sweep.Post Inv-loop μ-loop
   sweep-loop-less c =
-      let at = c .before .before .before .before in
+      let at = c .before .before .before .before .before in
       walk-falls (joined at .before .before .lowest .ensures) (at .before .rest .ensures)
 
   sweep-loop-again : sweep-lts.Need-loop-again (sweep-calls t) (sweep-at t) sweep.Post Inv-loop μ-loop
   sweep-loop-again c =
       let added = c .before .before in
-      let at = added .before .before in
-      (swept-more (turn at .loop .inv .0) (moved at) (added .take .ensures), added .take .kept .1 .1 .1 .1 .1 .1 .0 ∙ turn at .loop .inv .1)
+      let counted = added .before .before in
+      let at = counted .before in
+      let held = turn at .loop .inv .0 in (
+        swept-more held (moved at)
+            (step-adds (held .sweeping) (moved at) _ _ (entry (turn at) .pre .1 .1) (counted .indicator .ensures) refl (added .take .ensures)),
+        added .take .kept .1 .1 .1 .1 .1 .1 .0 ∙ turn at .loop .inv .1,
+      )
 
   sweep-same-length : sweep-lts.Need-same-length (sweep-calls t) (sweep-at t) sweep.Post Inv-loop μ-loop
   sweep-same-length c = c .before .before .loop .inv .1
@@ -196,107 +215,107 @@ module _ (t : ℕ) where
 -- ---- take
 
 module _ (t : ℕ) where
-  -- the tests whether there is a candidate, one beside the first, and one beside these two; the entry
-  abbrev tested2 : take-lts.After-is-empty3 (take-calls t) (take-at t) take.Post → take-lts.After-is-empty2 (take-calls t) (take-at t) take.Post
-  tested2 c = c .before .before .before .before
-
-  abbrev tested : take-lts.After-is-empty2 (take-calls t) (take-at t) take.Post → take-lts.After-is-empty (take-calls t) (take-at t) take.Post
-  tested c = c .before .before .before .before .before .before
-
-  abbrev start : take-lts.After-is-empty (take-calls t) (take-at t) take.Post → take-lts.Start (take-calls t) (take-at t) take.Post
+  -- the entry, from the test whether the candidates are too few; that test, from where they are not and no candidate is enough by itself
+  abbrev start : take-lts.After-is-few (take-calls t) (take-at t) take.Post → take-lts.Start (take-calls t) (take-at t) take.Post
   start c = c .before .before .before
 
-  -- the candidates are the lowest, u, alone; or u and v
-  one : (c : take-lts.Then3 (take-calls t) (take-at t) take.Post)
-      → mask (start (tested (c .before)) .args .c) ≡ 2 ^ (c .before .before .before .lowest .result)
-  one c =
-      let first = c .before .before in
-      one-left (first .before .lowest .ensures) (first .rest .ensures) (empty-holds (c .before .is-empty2 .ensures) (c .if3 .taken))
+  abbrev tested : take-lts.Else2 (take-calls t) (take-at t) take.Post → take-lts.After-is-few (take-calls t) (take-at t) take.Post
+  tested c = c .before .before .before
 
-  two : (c : take-lts.Then4 (take-calls t) (take-at t) take.Post)
-      → let u = tested2 (c .before) .before .before .lowest .result in let v = c .before .before .before .lowest2 .result in
-      (mask (start (tested (tested2 (c .before))) .args .c) ≡ with (2 ^ u) v) × (u ≢ v)
+  -- where it was asked whether there are candidates beside the first two
+  abbrev asked : take-lts.After-is-empty (take-calls t) (take-at t) take.Post → take-lts.Else2 (take-calls t) (take-at t) take.Post
+  asked c = c .before .before .before .before .before
+
+  -- what is asked for
+  abbrev ask : take-lts.Else2 (take-calls t) (take-at t) take.Post → Request
+  ask c = let given = start (tested c) .args in needing (mask (given .silent)) (given .need) (mask (given .s))
+
+  left : (c : take-lts.Else2 (take-calls t) (take-at t) take.Post)
+      → let at = start (tested c) in at .args .need ≤ size (minus (mask (at .args .c)) (mask (at .args .silent)))
+  left c = tested c .is-few .ensures .1 (c .before .before .if1 .left)
+
+  wanting : (c : take-lts.Else2 (take-calls t) (take-at t) take.Post)
+      → let at = start (tested c) in (1 ≤ at .args .need) × (2 ≤ at .args .need + size (bitAnd (mask (at .args .c)) (mask (at .args .silent))))
+  wanting c = c .before .is-enough .ensures .1 (c .if2 .left)
+
+  -- the candidates are u and v
+  two : (c : take-lts.Then3 (take-calls t) (take-at t) take.Post)
+      → let u = c .before .before .before .before .before .lowest .result in let v = c .before .before .before .lowest2 .result in
+      (mask (start (tested (asked (c .before))) .args .c) ≡ with (2 ^ u) v) × (u ≢ v)
   two c =
-      let first = tested2 (c .before) .before in
       let second = c .before .before in
+      let first = second .before .before in
       two-left (first .before .lowest .ensures) (first .rest .ensures) (second .before .lowest2 .ensures) (second .rest2 .ensures)
-      (empty-holds (c .before .is-empty3 .ensures) (c .if4 .taken))
-
-  take-end-requires : take-lts.Need-end-requires (take-calls t) (take-at t) take.Post
-  take-end-requires c κs =
-      let none = c .before in
-      take-same (start (none .before) .pre .1) (empty-holds (none .before .is-empty .ensures) (none .if1 .taken))
+      (empty-holds (c .before .is-empty .ensures) (c .if3 .taken))
 
   take-returns : take-lts.Need-returns (take-calls t) (take-at t) take.Post
-  take-returns c =
-      let none = c .before .before .before .before in
-      take-adds (start (none .before) .pre .1) (empty-holds (none .before .is-empty .ensures) (none .if1 .taken)) (c .before .before .end .ensures)
+  take-returns c = need-few (start (c .before) .pre .1) _ _ (c .before .is-few .ensures .0 (c .if1 .taken)) _ _
 
-  take-is-few-requires : take-lts.Need-is-few-requires (take-calls t) (take-at t) take.Post
-  take-is-few-requires c κs = take-fits (start (c .before) .pre .1)
+  take-start-requires : take-lts.Need-start-requires (take-calls t) (take-at t) take.Post
+  take-start-requires c κs = start (c .before .before .before .before) .pre .1
 
   take-returns-2 : take-lts.Need-returns-2 (take-calls t) (take-at t) take.Post
-  take-returns-2 c = few-adds (start (c .before .before .before) .pre .1) (c .before .is-few .ensures (c .if2 .taken)) _ _
+  take-returns-2 c =
+      let enough = c .before .before .before .before in
+      let many = enough .before .before in
+      need-enough (start (many .before) .pre .1) _ _ (many .before .is-few .ensures .1 (many .if1 .left))
+      (enough .before .is-enough .ensures .0 (enough .if2 .taken)) (c .before .before .start .ensures)
 
   take-lowest-requires : take-lts.Need-lowest-requires (take-calls t) (take-at t) take.Post
-  take-lowest-requires c κs = let some = c .before .before in empty-fails (some .before .is-empty .ensures) (some .if1 .left)
+  take-lowest-requires c κs = some-candidate _ _ _ (left c) (wanting c .1)
 
   take-rest-requires : take-lts.Need-rest-requires (take-calls t) (take-at t) take.Post
   take-rest-requires c κs = c .lowest .ensures
 
-  take-end-with-requires : take-lts.Need-end-with-requires (take-calls t) (take-at t) take.Post
-  take-end-with-requires c κs = take-same (start (tested (c .before .before)) .pre .1) (one (c .before))
-
-  take-returns-3 : take-lts.Need-returns-3 (take-calls t) (take-at t) take.Post
-  take-returns-3 c =
-      let last = c .before .before .before .before in
-      take-adds (start (tested (last .before)) .pre .1) (one last) (c .before .before .end-with .ensures)
-
   take-lowest-requires-2 : take-lts.Need-lowest-requires-2 (take-calls t) (take-at t) take.Post
-  take-lowest-requires-2 c κs = empty-fails (c .before .is-empty2 .ensures) (c .if3 .left)
+  take-lowest-requires-2 c κs =
+      let first = c .before in
+      second-candidate _ _ _ (left (first .before)) (wanting (first .before) .1) (first .lowest .ensures) (c .rest .ensures)
 
   take-rest-requires-2 : take-lts.Need-rest-requires-2 (take-calls t) (take-at t) take.Post
   take-rest-requires-2 c κs = c .lowest2 .ensures
 
   take-end-pair-requires : take-lts.Need-end-pair-requires (take-calls t) (take-at t) take.Post
-  take-end-pair-requires c κs = (take-same (start (tested (tested2 (c .before .before))) .pre .1) (two (c .before) .0), two (c .before) .1)
+  take-end-pair-requires c κs =
+      let pair = c .before in
+      let first = asked (pair .before) in
+      (take-same (start (tested first) .pre .1) (two pair .0), two pair .1, rw (two pair .0) at (left first))
 
-  take-returns-4 : take-lts.Need-returns-4 (take-calls t) (take-at t) take.Post
-  take-returns-4 c =
-      let last = c .before .before .before .before in
-      take-adds (start (tested (tested2 (last .before))) .pre .1) (two last .0) (c .before .before .end-pair .ensures)
+  take-returns-3 : take-lts.Need-returns-3 (take-calls t) (take-at t) take.Post
+  take-returns-3 c =
+      let pair = c .before .before .before .before in
+      let first = asked (pair .before) in
+      take-adds (start (tested first) .pre .1) (ask first) (two pair .0) (c .before .before .end-pair .ensures)
 
   -- more than two are left
-  abbrev many : take-lts.After-is-far (take-calls t) (take-at t) take.Post → take-lts.After-is-empty (take-calls t) (take-at t) take.Post
-  many c = tested (tested2 (c .before .before))
-
   take-agenda-requires : take-lts.Need-agenda-requires (take-calls t) (take-at t) take.Post
   take-agenda-requires c κs =
-      let some = tested2 (c .before .before) .before .before .before .before .before in
-      take-pickable (start (many c) .pre .1) (empty-fails (some .before .is-empty .ensures) (some .if1 .left))
+      let first = asked (c .before) in
+      take-pickable (start (tested first) .pre .1) (some-candidate _ _ _ (left first) (wanting first .1))
 
   take-sweep-requires : take-lts.Need-sweep-requires (take-calls t) (take-at t) take.Post
   take-sweep-requires c κs =
       let at = c .before in
-      let at-start = start (many (at .before .before)) in (
-        omega (arith, cover-candidates (at-start .pre .1) (at .before .agenda .ensures) (at .minus .ensures), at-start .pre .0),
-        cover-sweeping (at-start .pre .1) (at .before .agenda .ensures) (at .minus .ensures),
+      let first = asked (at .before .before .before) in
+      let held = start (tested first) .pre in (
+        omega (arith, cover-candidates (held .1) (at .before .agenda .ensures) (at .minus .ensures), held .0),
+        (cover-sweeping (held .1) (at .before .agenda .ensures) (at .minus .ensures), wanting first .0),
       )
 
-  take-returns-5 : take-lts.Need-returns-5 (take-calls t) (take-at t) take.Post
-  take-returns-5 c =
+  take-returns-4 : take-lts.Need-returns-4 (take-calls t) (take-at t) take.Post
+  take-returns-4 c =
       let at = c .before .before .before .before in
-      cover-adds (start (many (at .before .before)) .pre .1) (at .before .agenda .ensures) (at .minus .ensures) (c .before .before .sweep .ensures)
+      let first = asked (at .before .before .before) in
+      cover-adds (start (tested first) .pre .1) (at .before .agenda .ensures) (at .minus .ensures) (ask first) refl (c .before .before .sweep .ensures)
 
 pub +sweep+take-spec : {M : Type 1} → statement M
 +sweep+take-spec =
     close μ-sweep μ-take
     (λ t. sweep-lts.spec (sweep-calls t) (sweep-at t) sweep.Post Inv-loop μ-loop
-    (sweep-add-more t) (sweep-loop-holds t) (λ c κs. tt) (sweep-lowest-requires t) (sweep-get-requires t) (sweep-with-requires t)
-    (λ c κs. tt) (λ c κs. tt) (sweep-rest-requires t) (sweep-with-requires-2 t) (sweep-take-requires t) (sweep-loop-less t)
-    (sweep-loop-again t) (sweep-same-length t) (sweep-returns t))
+    (sweep-loop-holds t) (λ c κs. tt) (sweep-lowest-requires t) (sweep-get-requires t) (sweep-with-requires t)
+    (λ c κs. tt) (λ c κs. tt) (sweep-rest-requires t) (sweep-with-requires-2 t) (sweep-sub-fewer t) (sweep-indicator-requires t) (sweep-add-fewer t)
+    (sweep-take-requires t) (sweep-loop-less t) (sweep-loop-again t) (sweep-same-length t) (sweep-returns t))
     (λ t. take-lts.spec (take-calls t) (take-at t) take.Post
-    (λ c κs. tt) (take-end-requires t) (λ c. search needs) (take-returns t) (take-is-few-requires t) (take-returns-2 t)
-    (take-lowest-requires t) (take-rest-requires t) (λ c κs. tt) (take-end-with-requires t) (λ c. search needs) (take-returns-3 t)
-    (take-lowest-requires-2 t) (take-rest-requires-2 t) (λ c κs. tt) (take-end-pair-requires t) (λ c. search needs)
-    (take-returns-4 t) (λ c κs. tt) (take-agenda-requires t) (λ c κs. tt) (take-sweep-requires t) (λ c. search needs) (take-returns-5 t))
+    (λ c κs. tt) (take-returns t) (λ c κs. tt) (take-start-requires t) (λ c. search needs) (take-returns-2 t) (take-lowest-requires t)
+    (take-rest-requires t) (take-lowest-requires-2 t) (take-rest-requires-2 t) (λ c κs. tt) (take-end-pair-requires t) (λ c. search needs)
+    (take-returns-3 t) (take-agenda-requires t) (λ c κs. tt) (take-sweep-requires t) (λ c. search needs) (take-returns-4 t))

@@ -1,34 +1,29 @@
--- Every clique to be found has the only candidate v, else v could be added to it: so v joins the clique, and no candidate is left.
+-- The clique of s and v has one member more, or none where v is silent: that is too few, or enough for any clique to be found.
 use native.Mathlib.Omega.{arith}
 use borrow.Author.Needs.{needs}
-use Rattle.search.specs.SweepLaws.{joined}
-use Rattle.search.specs.TakeLaws.{take-fits}
-use Rattle.search.specs.EndLaws.{one-vertex, one-taking, one-adds}
+use Rattle.sets.specs.BitLaws.{bit-le}
+use Rattle.search.specs.EndLaws.{one-vertex}
+use Rattle.search.specs.FloorLaws.{one-few, one-enough}
 use Rattle.search.proofs.cliques.end_with.Statement.{statement}
 use Rattle.search.proofs.cliques.end_with.Tie as tie
 
--- the entry, from where v has joined
-abbrev start : tie.After-with → tie.Start
-start c = c .before .before .before .before .before
+-- the entry, from the test of v
+abbrev start : tie.After-indicator → tie.Start
+start c = c .before .before .before
 
-get-requires : tie.Need-get-requires
-get-requires c κs = one-vertex _ (c .before .before .pre)
+indicator-requires : tie.Need-indicator-requires
+indicator-requires c κs = let held = c .before .before .pre in omega (arith, one-vertex _ held, held .most)
 
-add-end : tie.Need-add-end
-add-end c = omega (arith, take-fits (c .before .before .before .before .pre))
-
-with-requires : tie.Need-with-requires
-with-requires c κs = let held = c .before .before .before .before .pre in omega (arith, one-vertex _ held, held .most)
-
-end-requires : tie.Need-end-requires
-end-requires c κs =
-    let at = c .before in
-    one-taking (start at .pre) (joined (at .with .ensures) (at .before .before .get .ensures) (at .before .meet .ensures))
+sub-if1 : tie.Need-sub-if1
+sub-if1 c = rw (c .indicator .ensures) (bit-le _ _)
 
 returns : tie.Need-returns
-returns c =
-    let at = c .before .before .before .before in
-    one-adds (start at .pre) (joined (at .with .ensures) (at .before .before .get .ensures) (at .before .meet .ensures)) (c .before .before .end .ensures)
+returns c = one-few _ (start (c .before) .pre) _ _ (c .before .indicator .ensures) (c .if1 .taken) _ _
+
+returns-2 : tie.Need-returns-2
+returns-2 c =
+    let large = c .before .before .before .before in
+    one-enough _ (start (large .before) .pre) _ _ (large .before .indicator .ensures) (large .if1 .left) (c .before .before .end-with .ensures)
 
 pub end-with-spec : {M : Type 1} → statement M
-end-with-spec = tie.close (tie.spec get-requires (λ c κs. tt) add-end with-requires end-requires (λ c. search needs) returns)
+end-with-spec = tie.close (tie.spec indicator-requires sub-if1 returns (λ c. search needs) (λ c. search needs) returns-2)

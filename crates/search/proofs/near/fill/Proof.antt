@@ -10,11 +10,11 @@ use Rattle.search.proofs.near.fill.Statement.{statement}
 use Rattle.search.proofs.near.fill.Tie as tie
 
 abbrev Inv-loop : tie.InvT-loop
-Inv-loop rows k q core reach pairs near₀ n v₀ near v =
-    Written (nearRow (masks rows) k q (mask core) reach pairs) v (masks near₀) (masks near) × (length near ≡ length near₀)
+Inv-loop rows k q all core reach pairs near₀ n v₀ near v =
+    Written (nearRow (masks rows) k q (mask all) (mask core) reach pairs) v (masks near₀) (masks near) × (length near ≡ length near₀)
 
 abbrev μ-loop : tie.MeasureT-loop
-μ-loop rows k q core reach pairs near₀ n v₀ near v = n - v
+μ-loop rows k q all core reach pairs near₀ n v₀ near v = n - v
 
 -- the entry
 abbrev start : tie.At-loop Inv-loop μ-loop → tie.Start Inv-loop μ-loop
@@ -25,8 +25,7 @@ loop-holds c = (written-none, refl)
 
 near-row-requires : tie.Need-near-row-requires Inv-loop μ-loop
 near-row-requires c κs =
-    let pairing = start (c .before .before) .pre .1 in
-    (pairing .pairable, pairing .valid, omega arith)
+    (start (c .before .before) .pre .1, omega arith)
 
 put-requires : tie.Need-put-requires Inv-loop μ-loop
 put-requires c κs = omega (arith, c .before .before .before .loop .inv .0 .long)
@@ -44,9 +43,9 @@ same-length : tie.Need-same-length Inv-loop μ-loop
 same-length c = c .before .loop .inv .1
 
 returns : tie.Need-returns Inv-loop μ-loop
-returns c =
+returns c z pairs =
     let pre = start (c .before) .pre in
-    written-filled _ _ (pre .1) (pre .2) (omega arith) (c .before .loop .inv .0)
+    written-filled (pre .1 .valid) pairs _ _ (pre .2) (omega arith) (c .before .loop .inv .0)
 
 pub fill-spec : {M : Type 1} → statement M
 fill-spec = tie.close (tie.spec Inv-loop μ-loop (λ c κs. tt) loop-holds near-row-requires put-requires (λ c. omega arith) (λ c. omega arith)

@@ -9,7 +9,7 @@ use Rattle.search.proofs.near.near_row.Tie as tie
 pair-row-requires : tie.Need-pair-row-requires
 pair-row-requires c κs =
     let pre = c .before .before .before .before .pre in
-    (pre .0, rw (c .meet .ensures) (and-below _ _ _ (pre .0 .inside .below)), pre .2)
+    (pre .0 .pairable, rw (c .meet .ensures) (and-below _ _ _ (pre .0 .below)), pre .1)
 
 returns : tie.Need-returns
 unfolding nearRow

@@ -5,7 +5,7 @@ use Rattle.search.proofs.trim.sift.Statement.{statement}
 use Rattle.search.proofs.trim.sift.Tie as tie
 
 returns : tie.Need-returns
-returns c = c .before .before .pre .beside
+returns c ask same counted beside = beside
 
 with-requires : tie.Need-with-requires
 with-requires c κs =
@@ -18,9 +18,9 @@ pair-row-requires c κs =
     (sift-pairable pre (c .before .with .ensures) (c .join .ensures), sift-below pre, pre .trimmable .vertex)
 
 returns-2 : tie.Need-returns-2
-returns-2 c =
+returns-2 c ask same counted beside =
     let joined = c .before .before in
-    sift-beside (joined .before .before .before .pre) (joined .with .ensures) (c .before .join .ensures) (c .pair-row .ensures)
+    sift-beside (joined .before .before .before .pre) (joined .with .ensures) (c .before .join .ensures) (c .pair-row .ensures) same counted beside
 
 pub sift-spec : {M : Type 1} → statement M
 sift-spec = tie.close (tie.spec returns with-requires (λ c κs. tt) pair-row-requires returns-2)

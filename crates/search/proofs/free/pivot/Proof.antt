@@ -2,8 +2,8 @@
 use Rattle.sets.specs.Words.{mask, masks}
 use Rattle.sets.specs.WalkLaws.{walk-falls, walk-below, walk-goes-on}
 use Rattle.search.specs.CliqueLaws.{Pivoting, pivoting-none, pivoting-covers, pivoting-next}
-use Rattle.search.proofs.cliques.pivot.Statement.{statement}
-use Rattle.search.proofs.cliques.pivot.Tie as tie
+use Rattle.search.proofs.free.pivot.Statement.{statement}
+use Rattle.search.proofs.free.pivot.Tie as tie
 
 abbrev Inv-loop : tie.InvT-loop
 Inv-loop rows c few best₀ fewest₀ left₀ best fewest left = Pivoting (masks rows) (mask c) (mask left₀) (mask left) (mask best)
