@@ -24,7 +24,7 @@ use Rattle.largest.specs.Calls.{forcedCause, forcedCheck, largestReply}
 use Rattle.largest.specs.LargestLaws.{largest-size, largest-mask}
 
 -- what the search starts from
-pub set-searchable : (g : List ℕ) (k f : ℕ) → firstOf (setCheck g k f) passed ≡ passed → Searchable g (request k 0)
+pub set-searchable : (g : List ℕ) (k f : ℕ) → firstOf (setCheck g k f) passed ≡ passed → Searchable g (request k 0 0)
 unfolding setCheck
 set-searchable g k f e =
     let judged = set-checked g k f e in

@@ -34,7 +34,7 @@ use Rattle.largest.specs.Climb.{Top, Held, Highest, Topmost, Sparing, Sp
 -- ---- the largest size
 
 -- a table for a floor serves every higher one
-pub settled-higher : {g t : List ℕ} {k p q : ℕ} → p ≤ q → q ≤ width → Settled g t (request k p) → Settled g t (request k q)
+pub settled-higher : {g t : List ℕ} {k p q : ℕ} → p ≤ q → q ≤ width → Settled g t (request k p 0) → Settled g t (request k q 0)
 settled-higher l b h =
     record {
       sized = h .sized;
@@ -46,7 +46,7 @@ settled-higher l b h =
     }
 
 -- what is sought beside all forced vertices
-pub fitted-held : {g : List ℕ} {k q f c r : ℕ} → Fitted g (request k q) f c → Sought g (request k q) f c r → Held g k q f r
+pub fitted-held : {g : List ℕ} {k q f c r : ℕ} → Fitted g (request k q 0) f c → Sought g (request k q 0) f c r → Held g k q f r
 fitted-held fit w =
     record {
       some = λ l. let found = w .some l in (record { below = found .below; lower = found .lower; plexed = found .plexed }, found .large);
@@ -161,8 +161,8 @@ top-some {g} {k} {f} {w} some slack h = go (decLt 0 (size w))
           }),
         ))
 
-pub lowering-none : {g t : List ℕ} {k q f c w : ℕ} → Settled g t (request k q) → Fitted g (request k q) f c → Top g k f w → q ≡ size w
-    → Lowering g t (request k q) f f c w
+pub lowering-none : {g t : List ℕ} {k q f c w : ℕ} → Settled g t (request k q 0) → Fitted g (request k q 0) f c → Top g k f w → q ≡ size w
+    → Lowering g t (request k q 0) f f c w
 lowering-none {g} {t} {k} {q} {f} {c} {w} h fit top e =
     let holds = top .holds in
     let listed = top-listed holds (top .top) {q = q} (omega (arith, e)) in
@@ -181,8 +181,11 @@ lowering-none {g} {t} {k} {q} {f} {c} {w} h fit top e =
       found = λ x l p less. fit .found x l p;
     }
 
-module _ {g t : List ℕ} {ask : Request} {f s c w : ℕ} (l : Lowering g t ask f s c w) where
-  -- a plex of the size that holds f is listed
+module _ {g t : List ℕ} {k q f s c w : ℕ} (l : Lowering g t (request k q 0) f s c w) where
+  abbrev ask : Request
+  ask = request k q 0
+
+  -- a plex of the size that holds f is listed: no vertex is silent
   size-listed : {x : ℕ} → Holding g (ask .slack) f x → ask .floor ≤ size x → Listed g ask x
   size-listed h many = top-listed h (λ y z. omega (arith, l .top y z, many)) many
 

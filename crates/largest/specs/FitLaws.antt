@@ -10,14 +10,17 @@ use Rattle.sets.specs.Set.{bit, In, with, without}
 use Rattle.sets.specs.Words.{Lowest}
 use Rattle.sets.specs.BitLaws.{ext, bit-le, bit-or, bit-minus}
 use Rattle.sets.specs.PointLaws.{bit-none, bit-with, single-in, none-out}
-use Rattle.sets.specs.SubsetLaws.{sub-trans, sub-with}
-use Rattle.judging.specs.Request.{Request}
+use Rattle.sets.specs.SubsetLaws.{sub-refl, sub-trans, sub-with}
+use Rattle.judging.specs.Request.{Request, request}
+use Rattle.search.specs.Found.{Near}
 use Rattle.search.specs.FoundLaws.{with-found}
 use Rattle.search.specs.Start.{Candidates}
 use Rattle.search.specs.StartLaws.{start-compatible}
 use Rattle.search.specs.Trim.{Beside}
+use Rattle.search.specs.Sift.{Siftable, Counted}
+use Rattle.search.specs.SiftLaws.{counted-none}
 use Rattle.search.specs.Ready.{Settled, Ready, Split}
-use Rattle.search.specs.ReadyLaws.{with-ready}
+use Rattle.search.specs.ReadyLaws.{ready-siftable, with-ready}
 use Rattle.largest.specs.Largest.{Holding}
 use Rattle.largest.specs.Fit.{Forced, Fitted, Joining, Growing}
 
@@ -26,6 +29,19 @@ pub join-ready : {g t : List ℕ} {ask : Request} {s c v r j : ℕ} → Ready g 
 join-ready {g} {t} {ask} {s} {c} {v} {r} h i b e =
     let split : Split g t ask s c v r (without c v) = record { ready = h; member = i; beside = b; others = refl } in
     with-ready split e
+
+-- what is left of the candidates is sifted; no vertex is silent here, so that all of it counts
+module _ {g t : List ℕ} {k q s c v d : ℕ} (h : Ready g t (request k q 0) s c)
+    (left : (ask : Request) → ask .slack ≡ k → Near g ask t → Beside g ask s c v d) where
+  beside : Beside g (request k q 0) s c v d
+  beside = left (request k q 0) refl (h .settled .near)
+
+  pub join-siftable : In v c → Siftable g k q s c v d d
+  join-siftable i = ready-siftable h v i (omega (arith, h .settled .floor)) beside (sub-refl d)
+
+  pub join-sifted : {r : ℕ} → ((ask : Request) → ask .slack ≡ k → Counted ask q (with s v) d d → Beside g ask s c v d → Beside g ask s c v r)
+      → Beside g (request k q 0) s c v r
+  join-sifted kept = kept (request k q 0) refl (counted-none k q (with s v) d) beside
 
 -- ---- the forced vertices join
 

@@ -3,7 +3,7 @@
 use Prim.Native.Nat.{ℕ, _^_, _≤_, _<_, min}
 use native.Mathlib.Nat.{lt-of-not-le}
 use native.Mathlib.Omega.{arith}
-use mathlib.Core.Path.{_≡_, sym, _∙_, subst}
+use mathlib.Core.Path.{_≡_, sym, ap, _∙_, subst}
 use mathlib.Core.Bool.{Bool, _&&_}
 use mathlib.Core.List.{List}
 use lib.Dec.{T, eqb, eqb→eq, eqb-refl}
@@ -15,7 +15,7 @@ use Rattle.sets.specs.Set.{Sub, size, subset, full}
 use Rattle.sets.specs.RangeLaws.{Mem, mem-range, range-mem, keep-mem, mem-keep, and-left, and-right, both, is-true, is-false, first-at, first-lowest}
 use Rattle.sets.specs.ListLaws.{greatest-le, greatest-ge, greatest-at}
 use Rattle.sets.specs.PointLaws.{bit-none}
-use Rattle.sets.specs.SubsetLaws.{subset-sub, sub-subset, sub-refl, sub-trans}
+use Rattle.sets.specs.SubsetLaws.{subset-sub, sub-subset, sub-refl, sub-trans, minus-none}
 use Rattle.sets.specs.SizeLaws.{size-mono, sub-size-eq}
 use Rattle.judging.specs.Request.{request}
 use Rattle.judging.specs.Plex.{plex, Plex, Maximal}
@@ -118,22 +118,22 @@ module _ {g : List ℕ} {k f : ℕ} where
       λ t l u p. sym (sub-size-eq s t u (top t (record { below = l; lower = sub-trans f s t (h .lower) u; plexed = p }))),
     )
 
-    pub top-listed : {q : ℕ} → q ≤ size s → Listed g (request k q) s
-    top-listed l = record { below = h .below; large = l; top = top-maximal }
+    pub top-listed : {q : ℕ} → q ≤ size s → Listed g (request k q 0) s
+    top-listed l = record { below = h .below; large = rw (minus-none s) l; top = top-maximal }
 
   module _ {s : ℕ} (h : Largest g k f s) where
     pub largest-maximal : Maximal g k s
     largest-maximal = top-maximal (h .holds) (h .top)
 
-    pub largest-listed : {q : ℕ} → q ≤ size s → Listed g (request k q) s
+    pub largest-listed : {q : ℕ} → q ≤ size s → Listed g (request k q 0) s
     largest-listed = top-listed (h .holds) (h .top)
 
   -- where no listed plex holds f, none of q members does
-  pub none-larger : {q : ℕ} → ((y : ℕ) → Listed g (request k q) y → Sub f y → ⊥) → (x : ℕ) → Holding g k f x → size x < q
+  pub none-larger : {q : ℕ} → ((y : ℕ) → Listed g (request k q 0) y → Sub f y → ⊥) → (x : ℕ) → Holding g k f x → size x < q
   none-larger {q} none x h =
       lt-of-not-le (λ l.
       let r = plex-within-maximal g k x (h .below) (h .plexed) in
-      none (r .0) (record { below = r .2; large = omega (arith, l, size-mono x (r .0) (r .3)); top = r .1 })
+      none (r .0) (record { below = r .2; large = omega (arith, l, size-mono x (r .0) (r .3), ap size (minus-none (r .0))); top = r .1 })
       (sub-trans f x (r .0) (h .lower) (r .3)))
 
 -- ---- nothing is forced

@@ -64,8 +64,8 @@ module _ (g : List ℕ) (k f : ℕ) {m s : ℕ} (e : largestReply g k f ≡ answ
   pub answer-maximal : Maximal g k s
   answer-maximal = largest-maximal largest-answer
 
-  pub answer-listed : {q : ℕ} → q ≤ m → Mem s (listing g (request k q))
-  answer-listed {q} l = listing-complete g (request k q) s (largest-listed largest-answer (omega (arith, l, answer-size)))
+  pub answer-listed : {q : ℕ} → q ≤ m → Mem s (listing g (request k q 0))
+  answer-listed {q} l = listing-complete g (request k q 0) s (largest-listed largest-answer (omega (arith, l, answer-size)))
 
 -- ---- nothing is forced
 

@@ -19,6 +19,7 @@ use Rattle.sets.specs.SizeLaws.{size-mono, size-or, size-with}
 use Rattle.sets.specs.WalkLaws.{without-less}
 use Rattle.judging.specs.Request.{Request, request}
 use Rattle.judging.specs.Setting.{Judgeable}
+use Rattle.lists.specs.ListingLaws.{listed-size}
 use Rattle.search.specs.Found.{Empty, Compatible, Near}
 use Rattle.search.specs.Ready.{Ready}
 use Rattle.search.specs.FoundLaws.{compatible-part, empty-part, with-found, without-found}
@@ -45,7 +46,7 @@ module _ {g : List ℕ} {ask : Request} {s c : ℕ} (d : ℕ) (p : Sub d c) wher
 
 -- ---- from the search for any slack
 
-pub ready-seeking : {g t : List ℕ} {k q have s c : ℕ} → k ≡ 1 → Ready g t (request k q) s c → 1 ≤ q → have ≡ size s → Seeking g (request 1 q) have s c
+pub ready-seeking : {g t : List ℕ} {k q have s c : ℕ} → k ≡ 1 → Ready g t (request k q 0) s c → 1 ≤ q → have ≡ size s → Seeking g (request 1 q 0) have s c
 ready-seeking {g} {t} {k} {q} {have} {s} {c} one h l e =
     record {
       sized = h .settled .sized;
@@ -61,10 +62,10 @@ ready-seeking {g} {t} {k} {q} {have} {s} {c} one h l e =
 -- a listed plex in s and b has the members of s and at most n others
 pub coloured-empty : {g : List ℕ} {ask : Request} {have s c n b : ℕ} (p : ℕ) → Sub p s → have ≡ size s → Coloured g (ask .slack) p c n b
     → have + n < ask .floor → Empty g ask s b
-coloured-empty {s = s} {b = b} p o e k l x f =
+coloured-empty {g} {ask} {s = s} {b = b} p o e k l x f =
     let few = k .most x (f .listed .below) (f .listed .top .0) (sub-trans p s x o (f .lower)) in
     let whole = size-mono x (bitOr s (bitAnd x b)) (λ u. omega (arith, f .upper u, bit-or s b u, bit-or s (bitAnd x b) u, bit-and x b u)) in
-    omega (arith, l, few, whole, size-or s (bitAnd x b), e, f .listed .large)
+    omega (arith, l, few, whole, size-or s (bitAnd x b), e, listed-size g ask (f .listed))
 
 -- ---- a clique s with the candidates c
 

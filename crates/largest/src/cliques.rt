@@ -8,8 +8,8 @@ use sets::Set;
 // One clique of at least q members that holds s, which has `have` members, and has no vertex outside s and c: empty where nothing listed is there.
 // A clique in s and `base` has fewer than q members, so one of the others is in each that is sought.
 pub(crate) fn clique(rows: &[u64], q: usize, have: usize, s: Set, c: Set) -> Set
-    requires { ⌜ Seeking (masks (now rows)) (request 1 q) have (mask s) (mask c) ⌝ }
-    ensures { λ r. ⌜ Sought (masks (now (rows .entry))) (request 1 q) (mask s) (mask c) (mask r) ⌝ }
+    requires { ⌜ Seeking (masks (now rows)) (request 1 q 0) have (mask s) (mask c) ⌝ }
+    ensures { λ r. ⌜ Sought (masks (now (rows .entry))) (request 1 q 0) (mask s) (mask c) (mask r) ⌝ }
 {
     if q <= have {
         return s;
@@ -24,8 +24,8 @@ pub(crate) fn clique(rows: &[u64], q: usize, have: usize, s: Set, c: Set) -> Set
 
 // The same with the candidates `todo` and `base`, where nothing listed is in s and `base`. A vertex that was tried joins `base`.
 fn sweep(rows: &[u64], q: usize, have: usize, s: Set, base: Set, todo: Set) -> Set
-    requires { ⌜ Sweeping (masks (now rows)) (request 1 q) have (mask s) (mask base) (mask todo) ⌝ }
-    ensures { λ r. ⌜ Sought (masks (now (rows .entry))) (request 1 q) (mask s) (bitOr (mask todo) (mask base)) (mask r) ⌝ }
+    requires { ⌜ Sweeping (masks (now rows)) (request 1 q 0) have (mask s) (mask base) (mask todo) ⌝ }
+    ensures { λ r. ⌜ Sought (masks (now (rows .entry))) (request 1 q 0) (mask s) (bitOr (mask todo) (mask base)) (mask r) ⌝ }
 {
     let more = have + 1;
     let mut waiting = base;

@@ -1,4 +1,5 @@
-// The largest k-plex that holds forced vertices, and the lowest mask of one of its size.
+// The largest k-plex that holds forced vertices, and the lowest mask of one of its size. No vertex is silent here: what is listed is asked for with the
+// silent set 0.
 ghost use mathlib.Core.Path.{_≡_};
 ghost use Prim.Native.Nat.{_≤_};
 ghost use Rattle.sets.specs.Words.{mask, masks};
@@ -30,7 +31,7 @@ pub enum LargestFound {
 
 // A first k-plex that holds f. The table drops nothing: it serves the floor 0.
 fn first(rows: &[u64], near: &[u64], k: usize, f: Set) -> Set
-    requires { ⌜ Settled (masks (now rows)) (masks (now near)) (request k 0) × Forced (masks (now rows)) k (mask f) ⌝ }
+    requires { ⌜ Settled (masks (now rows)) (masks (now near)) (request k 0 0) × Forced (masks (now rows)) k (mask f) ⌝ }
     ensures { λ r. ⌜ Holding (masks (now (rows .entry))) k (mask f) (mask r) ⌝ }
 {
     let all = sets::full(sets::count(rows));
@@ -40,7 +41,7 @@ fn first(rows: &[u64], near: &[u64], k: usize, f: Set) -> Set
 
 // A k-plex of at least q members that holds f; empty where there is none.
 fn holding(rows: &[u64], near: &[u64], k: usize, q: usize, f: Set) -> Set
-    requires { ⌜ Settled (masks (now rows)) (masks (now near)) (request k q) × Forced (masks (now rows)) k (mask f) × (1 ≤ q) ⌝ }
+    requires { ⌜ Settled (masks (now rows)) (masks (now near)) (request k q 0) × Forced (masks (now rows)) k (mask f) × (1 ≤ q) ⌝ }
     ensures { λ r. ⌜ Held (masks (now (rows .entry))) k q (mask f) (mask r) ⌝ }
 {
     let all = search::candidates(rows, k, q, true);
@@ -50,7 +51,7 @@ fn holding(rows: &[u64], near: &[u64], k: usize, q: usize, f: Set) -> Set
 
 // The largest k-plex that holds f: a larger one is sought until there is none, and then the lowest of its size. The table is a lent one.
 fn climb(rows: &[u64], k: usize, f: Set, near: &mut [u64]) -> Set
-    requires { ⌜ Searchable (masks (now rows)) (request k 0) × Forced (masks (now rows)) k (mask f) × Lent (masks (now rows)) (masks (now near)) ⌝ }
+    requires { ⌜ Searchable (masks (now rows)) (request k 0 0) × Forced (masks (now rows)) k (mask f) × Lent (masks (now rows)) (masks (now near)) ⌝ }
     ensures { λ r. ⌜ Largest (masks (now (rows .entry))) k (mask f) (mask r) ⌝ }
 {
     table::clear(rows, k, near);
@@ -72,7 +73,7 @@ fn climb(rows: &[u64], k: usize, f: Set, near: &mut [u64]) -> Set
 
 // The same with a table of its own.
 fn climb_apart(rows: &[u64], k: usize, f: Set) -> Set
-    requires { ⌜ Searchable (masks (now rows)) (request k 0) × Forced (masks (now rows)) k (mask f) ⌝ }
+    requires { ⌜ Searchable (masks (now rows)) (request k 0 0) × Forced (masks (now rows)) k (mask f) ⌝ }
     ensures { λ r. ⌜ Largest (masks (now (rows .entry))) k (mask f) (mask r) ⌝ }
 {
     let mut near = [0u64; sets::TABLE];

@@ -35,8 +35,8 @@ fn spare(
     rest: Set,
     w: Set,
 ) -> Set
-    requires { ⌜ Sparing (masks (now rows)) (masks (now near)) (request k q) (mask s) (mask c) h (mask rest) (mask w) ⌝ }
-    ensures { λ r. ⌜ Spared (masks (now (rows .entry))) (request k q) (mask s) (mask rest) (mask w) (mask r) ⌝ }
+    requires { ⌜ Sparing (masks (now rows)) (masks (now near)) (request k q 0) (mask s) (mask c) h (mask rest) (mask w) ⌝ }
+    ensures { λ r. ⌜ Spared (masks (now (rows .entry))) (request k q 0) (mask s) (mask rest) (mask w) (mask r) ⌝ }
 {
     if sets::has(w, h) {
         return crate::seek::one(rows, near, k, q, s, rest);
@@ -47,7 +47,7 @@ fn spare(
 // Of the k-plexes that hold f and are as large as w, the largest, the one with the lowest mask. From the highest candidate down each is left out where a
 // plex of that size is left without it, and joins where there is none.
 pub(crate) fn lowest(rows: &[u64], near: &[u64], k: usize, f: Set, w: Set) -> Set
-    requires { ⌜ Settled (masks (now rows)) (masks (now near)) (request k (size (mask w))) × Forced (masks (now rows)) k (mask f)
+    requires { ⌜ Settled (masks (now rows)) (masks (now near)) (request k (size (mask w)) 0) × Forced (masks (now rows)) k (mask f)
         × Top (masks (now rows)) k (mask f) (mask w) ⌝ }
     ensures { λ r. ⌜ Largest (masks (now (rows .entry))) k (mask f) (mask r) ⌝ }
 {
@@ -64,7 +64,7 @@ pub(crate) fn lowest(rows: &[u64], near: &[u64], k: usize, f: Set, w: Set) -> Se
         let lower = spare(rows, near, k, q, s, left, h, rest, best);
         if sets::is_empty(lower) {
             let close = search::trim::beside(rows, near, k, s, left, h);
-            left = search::trim::sift(rows, k, q, few, s, left, h, close);
+            left = search::trim::sift(rows, k, q, few, s, left, h, close, close);
             s = sets::with(s, h);
         } else {
             best = lower;

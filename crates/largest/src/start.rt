@@ -14,9 +14,9 @@ use sets::Set;
 // The candidates of `all` that are left once the vertices of f have joined, one after the other. None is left where one of these is no candidate any
 // more: nothing listed holds them all then.
 pub(crate) fn fit(rows: &[u64], near: &[u64], k: usize, q: usize, all: Set, f: Set) -> Set
-    requires { ⌜ Settled (masks (now rows)) (masks (now near)) (request k q) × Candidates (masks (now rows)) (request k q) (mask all)
+    requires { ⌜ Settled (masks (now rows)) (masks (now near)) (request k q 0) × Candidates (masks (now rows)) (request k q 0) (mask all)
         × Forced (masks (now rows)) k (mask f) ⌝ }
-    ensures { λ r. ⌜ Fitted (masks (now (rows .entry))) (request k q) (mask f) (mask r) ⌝ }
+    ensures { λ r. ⌜ Fitted (masks (now (rows .entry))) (request k q 0) (mask f) (mask r) ⌝ }
 {
     // at slack 1 there is nothing to sift
     let few = k - 1;
@@ -30,7 +30,7 @@ pub(crate) fn fit(rows: &[u64], near: &[u64], k: usize, q: usize, all: Set, f: S
         }
         left = sets::rest(left, v);
         let close = search::trim::beside(rows, near, k, s, c, v);
-        c = search::trim::sift(rows, k, q, few, s, c, v, close);
+        c = search::trim::sift(rows, k, q, few, s, c, v, close, close);
         s = sets::with(s, v);
     }
     c
@@ -70,7 +70,7 @@ fn cheapest(rows: &[u64], heavy: bool, s: Set, c: Set) -> usize
 
 // A k-plex that holds f: the candidate that costs least joins, until none is left.
 fn greedy(rows: &[u64], near: &[u64], k: usize, heavy: bool, f: Set, c: Set) -> Set
-    requires { ⌜ Ready (masks (now rows)) (masks (now near)) (request k 0) (mask f) (mask c) ⌝ }
+    requires { ⌜ Ready (masks (now rows)) (masks (now near)) (request k 0 0) (mask f) (mask c) ⌝ }
     ensures { λ r. ⌜ Holding (masks (now (rows .entry))) k (mask f) (mask r) ⌝ }
 {
     let mut s = f;
@@ -86,7 +86,7 @@ fn greedy(rows: &[u64], near: &[u64], k: usize, heavy: bool, f: Set, c: Set) -> 
 // The larger of two k-plexes, each grown by a cost of its own: the second is the better one on some dense graphs, and is not tried on others. At
 // slack 1 they are the same.
 pub(crate) fn first(rows: &[u64], near: &[u64], k: usize, f: Set, c: Set) -> Set
-    requires { ⌜ Ready (masks (now rows)) (masks (now near)) (request k 0) (mask f) (mask c) ⌝ }
+    requires { ⌜ Ready (masks (now rows)) (masks (now near)) (request k 0 0) (mask f) (mask c) ⌝ }
     ensures { λ r. ⌜ Holding (masks (now (rows .entry))) k (mask f) (mask r) ⌝ }
 {
     let a = greedy(rows, near, k, true, f, c);

@@ -18,7 +18,7 @@ use Rattle.largest.proofs.climb.Tie as tie
 
 abbrev Inv-loop : tie.InvT-loop
 Inv-loop rows k f near₀ n best₀ floor₀ near best floor =
-    Holding (masks rows) k (mask f) (mask best) × Settled (masks rows) (masks near) (request k floor) × (floor ≤ size (mask best))
+    Holding (masks rows) k (mask f) (mask best) × Settled (masks rows) (masks near) (request k floor 0) × (floor ≤ size (mask best))
     × (length near ≡ length near₀)
 
 abbrev μ-loop : tie.MeasureT-loop

@@ -54,7 +54,7 @@ sweep-below t = and 1 sweep-kinds.ps (falls 1 sweep-kinds.ps _<_ μ-sweep t) swe
 
 abbrev Inv-loop : sweep-lts.InvT-loop
 Inv-loop rows q have s more waiting₀ left₀ waiting left =
-    Swept (masks rows) (request 1 q) have (mask s) (mask waiting₀) (mask left₀) (mask waiting) (mask left)
+    Swept (masks rows) (request 1 q 0) have (mask s) (mask waiting₀) (mask left₀) (mask waiting) (mask left)
 
 abbrev μ-loop : sweep-lts.MeasureT-loop
 μ-loop rows q have s more waiting₀ left₀ waiting left = mask left

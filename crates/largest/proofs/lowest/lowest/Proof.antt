@@ -1,6 +1,5 @@
 -- Every lower plex of the size is among the candidates that are left; once there are none, w is the lowest. The candidates fall, as a number.
 use native.Mathlib.Omega.{arith}
-use mathlib.Core.Path.{refl}
 use denote.Ref.{now}
 use Rattle.sets.specs.Words.{mask, masks}
 use Rattle.sets.specs.SubsetLaws.{sub-number}
@@ -8,14 +7,15 @@ use Rattle.sets.specs.WalkLaws.{walk-goes-on, walk-over, without-less, empty-ho
 use Rattle.judging.specs.Request.{request}
 use Rattle.search.specs.Ready.{Settled}
 use Rattle.search.specs.StartLaws.{settled-searchable}
-use Rattle.search.specs.ReadyLaws.{ready-vertex, ready-joinable, ready-siftable}
+use Rattle.search.specs.ReadyLaws.{ready-vertex, ready-joinable}
 use Rattle.largest.specs.Climb.{Sparing, Lowering}
+use Rattle.largest.specs.FitLaws.{join-siftable, join-sifted}
 use Rattle.largest.specs.ClimbLaws.{settled-higher, top-some, lowering-none, lowering-lower, lowering-with, lowering-all}
 use Rattle.largest.proofs.lowest.lowest.Statement.{statement}
 use Rattle.largest.proofs.lowest.lowest.Tie as tie
 
 abbrev Inv-loop : tie.InvT-loop
-Inv-loop rows near k q few s₀ left₀ best₀ s left best = Lowering (masks rows) (masks near) (request k q) (mask s₀) (mask s) (mask left) (mask best)
+Inv-loop rows near k q few s₀ left₀ best₀ s left best = Lowering (masks rows) (masks near) (request k q 0) (mask s₀) (mask s) (mask left) (mask best)
 
 abbrev μ-loop : tie.MeasureT-loop
 μ-loop rows near k q few s₀ left₀ best₀ s left best = mask left
@@ -31,11 +31,11 @@ abbrev turn : tie.After-highest Inv-loop μ-loop → tie.At-loop Inv-loop μ-loo
 turn c = c .before .before .before
 
 settled : (c : tie.After-size Inv-loop μ-loop) → let at = start c .args in
-    Settled (masks (now (at .rows))) (masks (now (at .near))) (request (at .k) (c .size .result))
+    Settled (masks (now (at .rows))) (masks (now (at .near))) (request (at .k) (c .size .result) 0)
 settled c = settled-higher (omega (arith, c .size .ensures .0)) (c .size .ensures .1) (start c .pre .0)
 
 sparing : (c : tie.After-without Inv-loop μ-loop) → let at = turn (c .before) in let args = start (sized at) .args in
-    Sparing (masks (now (args .rows))) (masks (now (args .near))) (request (args .k) (sized at .size .result)) (mask (at .loop .s)) (mask (at .loop .left))
+    Sparing (masks (now (args .rows))) (masks (now (args .near))) (request (args .k) (sized at .size .result) 0) (mask (at .loop .s)) (mask (at .loop .left))
     (c .before .highest .result) (mask (c .without .result)) (mask (at .loop .best))
 sparing c =
     let at = turn (c .before) in
@@ -74,8 +74,7 @@ beside-requires c κs = let high = c .before .before .before .before in ready-jo
 sift-requires : tie.Need-sift-requires Inv-loop μ-loop
 sift-requires c κs =
     let high = c .before .before .before .before .before in
-    let ready = turn high .loop .inv .ready in
-    ready-siftable ready _ (high .highest .ensures .member) (c .beside .ensures _ refl (ready .settled .near))
+    join-siftable (turn high .loop .inv .ready) (c .beside .ensures) (high .highest .ensures .member)
 
 with-requires : tie.Need-with-requires Inv-loop μ-loop
 with-requires c κs =
@@ -87,15 +86,18 @@ loop-less : tie.Need-loop-less Inv-loop μ-loop
 loop-less c =
     let sift = c .before in
     let high = sift .before .before .before .before .before .before in
-    omega (arith, sub-number _ _ (sift .sift .ensures .kept .part), without-less _ _ (high .highest .ensures .member))
+    let kept = join-sifted (turn high .loop .inv .ready) (sift .before .beside .ensures) (sift .sift .ensures) in
+    omega (arith, sub-number _ _ (kept .kept .part), without-less _ _ (high .highest .ensures .member))
 
 loop-again : tie.Need-loop-again Inv-loop μ-loop
 loop-again c =
     let sift = c .before in
     let none = sift .before .before in
     let spare = none .before .before in
-    lowering-with (turn (spare .before .before) .loop .inv) (sparing (spare .before)) (spare .spare .ensures)
-    (empty-holds (none .before .is-empty2 .ensures) (none .if2 .taken)) (sift .sift .ensures) (c .with .ensures)
+    let inv = turn (spare .before .before) .loop .inv in
+    let kept = join-sifted (inv .ready) (sift .before .beside .ensures) (sift .sift .ensures) in
+    lowering-with inv (sparing (spare .before)) (spare .spare .ensures) (empty-holds (none .before .is-empty2 .ensures) (none .if2 .taken)) kept
+    (c .with .ensures)
 
 loop-less-2 : tie.Need-loop-less-2 Inv-loop μ-loop
 loop-less-2 c =

@@ -2,7 +2,7 @@
 -- decides. Each call has fewer candidates, as a number, than the one before.
 use Prim.Native.Nat.{ℕ, _<_}
 use native.Mathlib.Omega.{arith}
-use mathlib.Core.Path.{refl, sym, _∙_}
+use mathlib.Core.Path.{sym, _∙_}
 use borrow.Author.Tests.{eqb-true, eqb-false, not-true, not-false}
 use borrow.Fn.Kinds.{In}
 use borrow.Fn.PlainCycle.{Measures, is, falls, and}
@@ -13,10 +13,10 @@ use Rattle.sets.specs.SubsetLaws.{in-of-sub, in-below, sub-below, sub-number, p
 use Rattle.sets.specs.WalkLaws.{without-less}
 use Rattle.judging.specs.Request.{request}
 use Rattle.search.specs.Ready.{Whole}
-use Rattle.search.specs.ReadyLaws.{whole-inside, whole-between, ready-vertex, ready-joinable, ready-siftable}
+use Rattle.search.specs.ReadyLaws.{whole-inside, whole-between, ready-vertex, ready-joinable}
 use Rattle.judging.specs.SurveyLaws.{finds-plex}
 use Rattle.largest.specs.SoughtLaws.{sought-short, sought-stuck, sought-leaf, without-ready, sought-without, sought-branches}
-use Rattle.largest.specs.FitLaws.{join-ready}
+use Rattle.largest.specs.FitLaws.{join-ready, join-siftable, join-sifted}
 use Rattle.largest.proofs.seek.find.Reads as find
 use Rattle.largest.proofs.seek.find.Kinds as find-kinds
 use Rattle.largest.proofs.seek.+find.Lts-find as find-lts
@@ -97,7 +97,7 @@ module _ (t : ℕ) where
   entry c = start (joined (c .before .before .before .before .before .before))
 
   whole : (c : Joined) → let at = start c .args in
-      Whole (masks (now (at .rows))) (masks (now (at .near))) (request (at .k) (at .q)) (mask (at .s)) (mask (at .c)) (mask (c .join .result))
+      Whole (masks (now (at .rows))) (masks (now (at .near))) (request (at .k) (at .q) 0) (mask (at .s)) (mask (at .c)) (mask (c .join .result))
   whole c = record { ready = start c .pre .1 .0; whole = c .join .ensures }
 
   -- the vertex to branch on is a candidate
@@ -172,8 +172,7 @@ module _ (t : ℕ) where
   sift-requires : find-lts.Need-sift-requires (calls t) (find-at t) find.Post
   sift-requires c κs =
       let at = c .before .before .before .before .before in
-      let ready = entry at .pre .1 .0 in
-      ready-siftable ready _ (member at) (c .beside .ensures _ refl (ready .settled .near))
+      join-siftable (entry at .pre .1 .0) (c .beside .ensures) (member at)
 
   with-requires : find-lts.Need-with-requires (calls t) (find-at t) find.Post
   with-requires c κs =
@@ -186,9 +185,10 @@ module _ (t : ℕ) where
       let with = c .before in
       let sift = with .before in
       let at = sift .before .before .before .before .before .before in
-      let pre = entry at .pre in (
-        omega (arith, pre .0, sub-number _ _ (sift .sift .ensures .kept .part), without-less _ _ (member at)),
-        (join-ready (pre .1 .0) (member at) (sift .sift .ensures) (with .with .ensures), pre .1 .1),
+      let pre = entry at .pre in
+      let kept = join-sifted (pre .1 .0) (sift .before .beside .ensures) (sift .sift .ensures) in (
+        omega (arith, pre .0, sub-number _ _ (kept .kept .part), without-less _ _ (member at)),
+        (join-ready (pre .1 .0) (member at) kept (with .with .ensures), pre .1 .1),
       )
 
   returns-5 : find-lts.Need-returns-5 (calls t) (find-at t) find.Post
@@ -197,9 +197,10 @@ module _ (t : ℕ) where
       let sift = with .before in
       let left = sift .before .before in
       let others = left .before .before in
+      let at = others .before .before in
+      let kept = join-sifted (entry at .pre .1 .0) (sift .before .beside .ensures) (sift .sift .ensures) in
       sought-branches _ (others .before .without .ensures) (others .find .ensures)
-      (eqb-true _ _ (sym (left .before .is-empty2 .ensures) ∙ not-false _ (left .if4 .left))) (member (others .before .before)) (sift .sift .ensures)
-      (with .with .ensures) (c .find2 .ensures)
+      (eqb-true _ _ (sym (left .before .is-empty2 .ensures) ∙ not-false _ (left .if4 .left))) (member at) kept (with .with .ensures) (c .find2 .ensures)
 
 pub +find-spec : {M : Type 1} → statement M
 +find-spec =

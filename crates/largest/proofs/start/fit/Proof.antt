@@ -1,6 +1,6 @@
 -- Each forced vertex joins as a candidate does in the search, so that every listed plex that holds all of them is still found.
 use native.Mathlib.Omega.{arith}
-use mathlib.Core.Path.{refl, sym, _∙_}
+use mathlib.Core.Path.{sym, _∙_}
 use borrow.Author.Tests.{not-true, not-false}
 use Rattle.sets.specs.Set.{In}
 use Rattle.sets.specs.Words.{mask, masks}
@@ -9,14 +9,14 @@ use Rattle.sets.specs.RangeLaws.{true-holds, false-fails}
 use Rattle.sets.specs.SubsetLaws.{has-in, in-has}
 use Rattle.sets.specs.WalkLaws.{walk-falls, walk-goes-on, walk-over}
 use Rattle.judging.specs.Request.{request}
-use Rattle.search.specs.ReadyLaws.{ready-joinable, ready-siftable}
+use Rattle.search.specs.ReadyLaws.{ready-joinable}
 use Rattle.largest.specs.Fit.{Joining}
-use Rattle.largest.specs.FitLaws.{joining-none, joining-next, joining-out, joining-all}
+use Rattle.largest.specs.FitLaws.{join-siftable, join-sifted, joining-none, joining-next, joining-out, joining-all}
 use Rattle.largest.proofs.start.fit.Statement.{statement}
 use Rattle.largest.proofs.start.fit.Tie as tie
 
 abbrev Inv-loop : tie.InvT-loop
-Inv-loop rows near k q few s₀ c₀ left₀ s c left = Joining (masks rows) (masks near) (request k q) (mask left₀) (mask s) (mask c) (mask left)
+Inv-loop rows near k q few s₀ c₀ left₀ s c left = Joining (masks rows) (masks near) (request k q 0) (mask left₀) (mask s) (mask c) (mask left)
 
 abbrev μ-loop : tie.MeasureT-loop
 μ-loop rows near k q few s₀ c₀ left₀ s c left = mask left
@@ -55,8 +55,7 @@ beside-requires c κs = ready-joinable (turn (c .before .before) .loop .inv .rea
 sift-requires : tie.Need-sift-requires Inv-loop μ-loop
 sift-requires c κs =
     let rest = c .before in
-    let ready = turn (rest .before .before) .loop .inv .ready in
-    ready-siftable ready _ (member rest) (c .beside .ensures _ refl (ready .settled .near))
+    join-siftable (turn (rest .before .before) .loop .inv .ready) (c .beside .ensures) (member rest)
 
 with-requires : tie.Need-with-requires Inv-loop μ-loop
 with-requires c κs = c .before .before .before .before .before .lowest .ensures .fits
@@ -69,7 +68,9 @@ loop-again c =
     let sift = c .before in
     let rest = sift .before .before in
     let has = rest .before .before in
-    joining-next (turn has .loop .inv) (has .before .lowest .ensures) (member rest) (sift .sift .ensures) (c .with .ensures) (rest .rest .ensures)
+    let inv = turn has .loop .inv in
+    let kept = join-sifted (inv .ready) (sift .before .beside .ensures) (sift .sift .ensures) in
+    joining-next inv (has .before .lowest .ensures) (member rest) kept (c .with .ensures) (rest .rest .ensures)
 
 returns-2 : tie.Need-returns-2 Inv-loop μ-loop
 returns-2 c = joining-all (c .before .before .loop .inv) (walk-over (c .before .is-empty .ensures) (c .if1 .left))

@@ -14,7 +14,7 @@ use Rattle.largest.proofs.start.greedy.Statement.{statement}
 use Rattle.largest.proofs.start.greedy.Tie as tie
 
 abbrev Inv-loop : tie.InvT-loop
-Inv-loop rows near k heavy s₀ left₀ s left = Growing (masks rows) (masks near) (request k 0) (mask s₀) (mask s) (mask left)
+Inv-loop rows near k heavy s₀ left₀ s left = Growing (masks rows) (masks near) (request k 0 0) (mask s₀) (mask s) (mask left)
 
 abbrev μ-loop : tie.MeasureT-loop
 μ-loop rows near k heavy s₀ left₀ s left = mask left
@@ -24,9 +24,9 @@ abbrev turn : tie.After-cheapest Inv-loop μ-loop → tie.At-loop Inv-loop μ-lo
 turn c = c .before .before .before
 
 -- what is left beside the vertex that joins
-left : (c : tie.After-beside Inv-loop μ-loop) → let at = turn (c .before) in
-    Beside (masks (at .before .before .before .args .rows .now)) (request (at .before .before .before .args .k) 0) (mask (at .loop .s)) (mask (at .loop .left))
-    (c .before .cheapest .result) (mask (c .beside .result))
+left : (c : tie.After-beside Inv-loop μ-loop) → let at = turn (c .before) in let args = at .before .before .before .args in
+    Beside (masks (args .rows .now)) (request (args .k) 0 0) (mask (at .loop .s)) (mask (at .loop .left)) (c .before .cheapest .result)
+    (mask (c .beside .result))
 left c = c .beside .ensures _ refl (turn (c .before) .loop .inv .ready .settled .near)
 
 cheapest-requires : tie.Need-cheapest-requires Inv-loop μ-loop
