@@ -120,6 +120,7 @@ changed-accepted x ok =
       valid = changed-valid ok (x .valid);
       slack = x .slack;
       floor = x .floor;
+      silent = rw n (x .silent);
     }
 
 -- ---- what the call answers

@@ -28,11 +28,11 @@ loopCause c = cause (eqb (c .one) (c .other)) 12 0
 unfoldable pub unchangedCause : List ℕ → Change → Cause
 unchangedCause g c = cause (alreadySo g c) 13 0
 
--- 7, 12, 13
+-- 7 for the vertices, 12, 13
 unfoldable pub pairCauses : List ℕ → Change → List Cause
 pairCauses g c = vertexOutCause g (c .one) ∷ vertexOutCause g (c .other) ∷ loopCause c ∷ unchangedCause g c ∷ []
 
--- 1, 2, 3, 4, 5, 7, 12, 13
+-- 1, 2, 3, 7 for the silent set, 4, 5, 7 for the vertices, 12, 13
 unfoldable pub changeCheck : List ℕ → Request → Change → List Cause
 changeCheck g ask c = requestCheck g ask ++ pairCauses g c
 

@@ -13,8 +13,8 @@ use Rattle.judging.specs.Graph.{Valid}
 use Rattle.judging.specs.Plex.{plex}
 use Rattle.judging.specs.Request.{Request}
 use Rattle.judging.specs.Refusal.{refused, answered, firstOf}
-use Rattle.judging.specs.Refusal.{vertexCause, slackCause, floorCause, rowCause, edgeCause, graphCauses, vertexOutCause}
-use Rattle.judging.specs.Calls.{passed, requestCheck}
+use Rattle.judging.specs.Refusal.{vertexCause, slackCause, floorCause, setCause, rowCause, edgeCause, graphCauses, vertexOutCause}
+use Rattle.judging.specs.Calls.{passed, numberCheck, requestCheck}
 use Rattle.lists.specs.Listing.{listing, Listed}
 use Rattle.lists.specs.ListingLaws.{listing-rising, listing-sound, listing-complete}
 use Rattle.search.specs.RoomLaws.{lacks, room-accepted, room-value, room-enough, six-accepted, six-value, six-room}
@@ -105,7 +105,7 @@ module _ (g : List ℕ) (ask : Request) (c : Change) where
 
   -- number 6 comes from a change that passed its checks, and gives the exact length of the new list
   no-six : T (lacks 6 (changeCheck g ask c))
-  unfolding changeCheck pairCauses loopCause unchangedCause vertexOutCause requestCheck graphCauses vertexCause slackCause floorCause rowCause edgeCause lacks
+  unfolding changeCheck pairCauses loopCause unchangedCause vertexOutCause requestCheck numberCheck graphCauses vertexCause slackCause floorCause setCause rowCause edgeCause lacks
   no-six = tt
 
   module _ (room : ℕ) {m : ℕ} (e : changeReply g ask c room ≡ refused 6 m) where

@@ -25,7 +25,7 @@ fn is_so(rows: &[u64], a: usize, b: usize, adjacent: bool) -> bool
     !has
 }
 
-// Refusals 7, 12 and 13.
+// Refusals 7 for the vertices, 12 and 13.
 fn check_pair(rows: &[u64], a: usize, b: usize, adjacent: bool) -> Checked
     requires { ⌜ Sized (masks (now rows)) ⌝ }
     ensures { λ r. ⌜ checkedReply r ≡ firstOf (pairCauses (masks (now (rows .entry))) (change a b adjacent)) passed ⌝ }
@@ -46,7 +46,7 @@ fn check_pair(rows: &[u64], a: usize, b: usize, adjacent: bool) -> Checked
     Checked::Passed
 }
 
-// Refusals 1, 2, 3, 4, 5, 7, 12 and 13.
+// Refusals 1, 2, 3, 7 for the silent set, 4, 5, 7 for the vertices, 12 and 13.
 pub fn check_change(rows: &[u64], request: Request, a: usize, b: usize, adjacent: bool) -> Checked
     ensures { λ r. ⌜ checkedReply r ≡ firstOf (changeCheck (masks (now (rows .entry))) (asked request) (change a b adjacent)) passed ⌝ }
 {

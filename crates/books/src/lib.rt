@@ -87,7 +87,7 @@ fn renew(rows: &[u64], request: Request, slots: &mut [u64]) -> usize
     requires { ⌜ Accepted (masks (now rows)) (asked request) ⌝ }
     ensures { λ r. ⌜ Renews (masks (now (rows .entry))) (asked request) (masks (now (slots .entry))) (masks (now (slots .exit))) r ⌝ }
 {
-    let all = search::candidates(rows, request.slack, request.floor, true);
+    let all = search::starting(rows, request, true);
     let candidates = sets::size(all);
     if is_tiny(request.slack, candidates) {
         return renew_tiny(rows, request, all, slots);
@@ -120,8 +120,8 @@ fn renew_changed(
 // Makes a and b adjacent, or not adjacent, in the book with these rows, request and slots, and its list the list of the changed graph. Nothing is taken from
 // the slots: they may hold anything. A book is opened by `search::list`.
 // Outcome: m, the length of the new list; both rows are changed, the first m slots hold the list, and the later ones keep what they held.
-// Refusals: 1, 2, 3, 4, 5, 7, 12 where a and b are the same, 13 where the edge is already so, and 6 with the exact m where there are fewer slots than m.
-// Each leaves rows and slots as they were.
+// Refusals: 1, 2, 3, 7 for a silent set that reaches n or above, 4, 5, 7 for a or b, 12 where a and b are the same, 13 where the edge is already so, and 6
+// with the exact m where there are fewer slots than m. Each leaves rows and slots as they were.
 // Cost: the checks and one search of the changed graph; two where its list has more sets than memory is kept for: 4,096, or fewer among few
 // candidates.
 pub fn change(

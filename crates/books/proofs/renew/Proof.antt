@@ -7,12 +7,12 @@ use Rattle.search.specs.Start.{Accepted, Candidates}
 use Rattle.books.proofs.renew.Statement.{statement}
 use Rattle.books.proofs.renew.Tie as tie
 
-abbrev start : tie.After-candidates → tie.Start
+abbrev start : tie.After-starting → tie.Start
 start c = c .before .before .before
 
-known : (c : tie.After-candidates) → let s = start c .args in
-    Accepted (masks (now (s .rows))) (asked (s .request)) × Candidates (masks (now (s .rows))) (asked (s .request)) (mask (c .candidates .result))
-known c = (start c .pre, c .candidates .ensures)
+known : (c : tie.After-starting) → let s = start c .args in
+    Accepted (masks (now (s .rows))) (asked (s .request)) × Candidates (masks (now (s .rows))) (asked (s .request)) (mask (c .starting .result))
+known c = (start c .pre, c .starting .ensures)
 
 pub renew-spec : {M : Type 1} → statement M
 renew-spec =
