@@ -3,7 +3,7 @@
 --   outcome found reply     the number, the value and what was found; of a refusal nothing is found, and that is 0
 --   yesNo, itself, nothing  what is found as a number: 1 for yes and 0 for no; a looseness, a set's mask or a bound; 0 where the value says all
 --   coreOutcome reply       the same of a core, with its passes; of a refusal both are 0
---   readOutcome reply       the same of a sheet that is read, with its n, k and q; of a refusal these are 0
+--   readOutcome reply       the same of a sheet that is read, with its n, k, q and silent set; of a refusal these are 0
 --   ListOutcome, ..         the outcome and the lent buffers at exit, as the promise of the call that lists, changes a book, reads a sheet or writes one
 use Prim.Native.Nat.{ℕ}
 use mathlib.Core.Path.{_≡_}
@@ -51,6 +51,7 @@ readOutcome r =
       vertices = foundIn (λ h. h .vertices) r;
       slack = foundIn (λ h. h .request .slack) r;
       floor = foundIn (λ h. h .request .floor) r;
+      silent = foundIn (λ h. h .request .silent) r;
     }
 
 -- ---- the calls that write to a lent buffer

@@ -155,13 +155,17 @@ pub fn read(answer: SheetRead) -> ReadOutcome
     ensures { λ r. ⌜ r ≡ readOutcome (readReply answer) ⌝ }
 {
     match answer {
-        SheetRead::Read { vertices, request } => ReadOutcome {
-            number: 0,
-            value: 0,
-            vertices,
-            slack: request.slack,
-            floor: request.floor,
-        },
+        SheetRead::Read { vertices, request } => {
+            let silent = request.silent;
+            ReadOutcome {
+                number: 0,
+                value: 0,
+                vertices,
+                slack: request.slack,
+                floor: request.floor,
+                silent: sets::word(silent, 0),
+            }
+        }
         SheetRead::Refused(f) => {
             let number = judging::number(f);
             let value = judging::value(f);
@@ -171,6 +175,7 @@ pub fn read(answer: SheetRead) -> ReadOutcome
                 vertices: 0,
                 slack: 0,
                 floor: 0,
+                silent: 0,
             }
         }
     }

@@ -2,7 +2,7 @@
 // beyond what its types say.
 ghost use mathlib.Core.Path.{_≡_};
 ghost use Rattle.sets.specs.Words.{masks};
-ghost use Rattle.judging.specs.Request.{request};
+ghost use Rattle.judging.specs.Request.{request, asked};
 ghost use Rattle.judging.specs.Calls.{loosenessReply, maximalReply};
 ghost use Rattle.bounds.specs.Calls.{coreReply, reachReply};
 ghost use Rattle.bounds.specs.BoundCalls.{firstBoundReply, secondBoundReply};
@@ -33,7 +33,7 @@ pub struct CoreOutcome {
     pub passes: usize,
 }
 
-// The outcome of reading a sheet: of a success n, the slack and the floor, which are 0 with a refusal.
+// The outcome of reading a sheet: of a success n, the slack, the floor and the mask of the silent vertices, which are 0 with a refusal.
 #[repr(C)]
 pub struct ReadOutcome {
     pub number: usize,
@@ -41,6 +41,7 @@ pub struct ReadOutcome {
     pub vertices: usize,
     pub slack: usize,
     pub floor: usize,
+    pub silent: u64,
 }
 
 // How loose the set of the mask s is in the graph with these rows. Found: the least k for which it is a k-plex, also one above the limit of slack; 0 for
@@ -67,7 +68,7 @@ pub extern "C" fn kadvisk_is_maximal(rows: &[u64], slack: usize, s: u64) -> Outc
 pub extern "C" fn kadvisk_core(rows: &[u64], slack: usize, floor: usize) -> CoreOutcome
     ensures { λ r. ⌜ r ≡ coreOutcome (coreReply (masks (now (rows .entry))) slack floor) ⌝ }
 {
-    let found = bounds::find_core(rows, Request { slack, floor });
+    let found = bounds::find_core(rows, slack, floor);
     answer::core(found)
 }
 
@@ -110,39 +111,60 @@ pub extern "C" fn kadvisk_second_bound(
     answer::bound(found)
 }
 
-// Every maximal k-plex of at least `floor` members, as masks in rising order, each once. Value: m, their number; the first m slots hold them, and the
-// later ones keep what they held. Refusals: 1, 2, 3, 4, 5, which leave the slots, and 6 with the exact m, which makes every slot 0.
+// What is asked: a slack, a floor, and the mask of the silent vertices.
+fn request_of(slack: usize, floor: usize, silent: u64) -> Request
+    ensures { λ r. ⌜ asked r ≡ request slack floor silent ⌝ }
+{
+    Request {
+        slack,
+        floor,
+        silent: sets::of_word(silent),
+    }
+}
+
+// Every maximal k-plex with at least `floor` members that are not silent, as masks in rising order, each once. Value: m, their number; the first m slots hold
+// them, and the later ones keep what they held. Refusals: 1, 2, 3, 7 for the silent mask, 4, 5, which leave the slots, and 6 with the exact m, which makes
+// every slot 0.
 #[no_mangle]
 pub extern "C" fn kadvisk_list(
     rows: &[u64],
     slack: usize,
     floor: usize,
+    silent: u64,
     slots: &mut [u64],
 ) -> Outcome
-    ensures { λ r. ⌜ ListOutcome (masks (now (rows .entry))) (request slack floor) (masks (now (slots .entry))) (masks (now (slots .exit))) r ⌝ }
+    ensures { λ r. ⌜ ListOutcome (masks (now (rows .entry))) (request slack floor silent) (masks (now (slots .entry))) (masks (now (slots .exit))) r ⌝ }
 {
-    let found = search::list(rows, Request { slack, floor }, slots);
+    let found = search::list(rows, request_of(slack, floor, silent), slots);
     answer::listed(found)
 }
 
-// Makes the vertices a and b adjacent, or not adjacent, in the book of these rows, slack, floor and slots: a graph with its list, which kadvisk_list opened.
-// Nothing is taken from the slots. Value: m, the length of the list of the changed graph; both rows are changed, the first m slots hold the list, and the
-// later ones keep what they held. Refusals: 1, 2, 3, 4, 5, 7, 12 where a and b are the same, 13 where the edge is already so, and 6 with the exact m; each
-// leaves rows and slots as they were.
+// Makes the vertices a and b adjacent, or not adjacent, in the book of these rows, slack, floor, silent vertices and slots: a graph with its list, which
+// kadvisk_list opened. Nothing is taken from the slots. Value: m, the length of the list of the changed graph; both rows are changed, the first m slots hold
+// the list, and the later ones keep what they held. Refusals: 1, 2, 3, 7 for the silent mask, 4, 5, 7 for a and b, 12 where they are the same, 13 where the
+// edge is already so, and 6 with the exact m; each leaves rows and slots as they were.
 #[no_mangle]
 pub extern "C" fn kadvisk_change(
     rows: &mut [u64],
     slack: usize,
     floor: usize,
+    silent: u64,
     a: usize,
     b: usize,
     adjacent: bool,
     slots: &mut [u64],
 ) -> Outcome
-    ensures { λ r. ⌜ ChangeOutcome (masks (now (rows .entry))) (request slack floor) (change a b adjacent) (masks (now (slots .entry)))
+    ensures { λ r. ⌜ ChangeOutcome (masks (now (rows .entry))) (request slack floor silent) (change a b adjacent) (masks (now (slots .entry)))
         (masks (now (rows .exit))) (masks (now (slots .exit))) r ⌝ }
 {
-    let found = books::change(rows, Request { slack, floor }, a, b, adjacent, slots);
+    let found = books::change(
+        rows,
+        request_of(slack, floor, silent),
+        a,
+        b,
+        adjacent,
+        slots,
+    );
     answer::listed(found)
 }
 
@@ -177,17 +199,18 @@ pub extern "C" fn kadvisk_list_with(
     rows: &[u64],
     slack: usize,
     floor: usize,
+    silent: u64,
     flags: u64,
     slots: &mut [u64],
 ) -> Outcome
-    ensures { λ r. ⌜ ListOutcome (masks (now (rows .entry))) (request slack floor) (masks (now (slots .entry))) (masks (now (slots .exit))) r ⌝ }
+    ensures { λ r. ⌜ ListOutcome (masks (now (rows .entry))) (request slack floor silent) (masks (now (slots .entry))) (masks (now (slots .exit))) r ⌝ }
 {
-    let found = search::list_with(rows, Request { slack, floor }, cuts(flags), slots);
+    let found = search::list_with(rows, request_of(slack, floor, silent), cuts(flags), slots);
     answer::listed(found)
 }
 
 // Reads the sheet in the text into the first of the rows; later rows keep their contents.
-// Refusals: 8 at line 1, 1, 2, 3, 8, 4, 5, 9, in this order; each leaves every row as it was.
+// Refusals: 8 at line 1, 1, 2, 3, 8, 7, 4, 5, 9, in this order; each leaves every row as it was.
 #[no_mangle]
 pub extern "C" fn kadvisk_read_sheet(text: &[u8], rows: &mut [u64]) -> ReadOutcome
     ensures { λ r. ⌜ ReadSheetOutcome (now (text .entry)) (masks (now (rows .entry))) (masks (now (rows .exit))) r ⌝ }
@@ -196,17 +219,18 @@ pub extern "C" fn kadvisk_read_sheet(text: &[u8], rows: &mut [u64]) -> ReadOutco
     answer::read(read)
 }
 
-// Writes the sheet of the graph and the request to the front of the text; the bytes beyond it keep theirs. Value: its length, 7 + 17n.
-// Refusals: 1, 2, 3, 4, 5, 9, in this order; each leaves the whole text as it was.
+// Writes the sheet of the graph and the request to the front of the text; the bytes beyond it keep theirs. Value: its length, 24 + 17n.
+// Refusals: 1, 2, 3, 7, 4, 5, 9, in this order; each leaves the whole text as it was.
 #[no_mangle]
 pub extern "C" fn kadvisk_write_sheet(
     rows: &[u64],
     slack: usize,
     floor: usize,
+    silent: u64,
     text: &mut [u8],
 ) -> Outcome
-    ensures { λ r. ⌜ WriteSheetOutcome (masks (now (rows .entry))) (request slack floor) (now (text .entry)) (now (text .exit)) r ⌝ }
+    ensures { λ r. ⌜ WriteSheetOutcome (masks (now (rows .entry))) (request slack floor silent) (now (text .entry)) (now (text .exit)) r ⌝ }
 {
-    let written = sheets::write_sheet(rows, Request { slack, floor }, text);
+    let written = sheets::write_sheet(rows, request_of(slack, floor, silent), text);
     answer::written(written)
 }

@@ -1,4 +1,4 @@
--- The outcome is that of the answer of `list_with`, which also leaves the lent buffer as promised.
+-- The request is that of the three arguments, and the outcome that of the answer of `list_with`, which also leaves the lent buffer as promised.
 use mathlib.Core.Path.{ap, _∙_}
 use borrow.Author.Needs.{needs}
 use Rattle.kadvisk.specs.Outcome.{outcome, nothing}
@@ -7,8 +7,11 @@ use Rattle.kadvisk.proofs.kadvisk_list_with.Tie as tie
 
 returns : tie.Need-returns
 returns c =
-    let left = c .before .before .before .list-with .ensures in
+    let call = c .before .before .before in
+    let left = rw (call .before .before .before .request-of .ensures) at (call .list-with .ensures) in
     record { answer = c .listed .ensures ∙ ap (outcome nothing) (left .reply); slots = left .slots }
 
 pub kadvisk-list-with-spec : {M : Type 1} → statement M
-kadvisk-list-with-spec = tie.close (tie.spec (λ c κs. search needs) (λ c κs. search needs) (λ c κs. search needs) (λ c. search needs) returns)
+kadvisk-list-with-spec =
+    tie.close
+    (tie.spec (λ c κs. search needs) (λ c κs. search needs) (λ c κs. search needs) (λ c κs. search needs) (λ c. search needs) returns)
