@@ -1,6 +1,7 @@
 // The list, and the largest k-plex, by trying all sets, straight from the definitions and apart from the search.
 ghost use Prim.Native.Nat.{_+_, _^_, _≤_, _<_};
 use crate::words;
+use judging::Request;
 use sets::Set;
 
 // There are graphs of at most 16 vertices here.
@@ -61,9 +62,16 @@ fn is_extendable(rows: &[u64], k: usize, s: Set) -> bool {
     false
 }
 
-// Is s a maximal k-plex of at least q members?
-fn is_listed(rows: &[u64], k: usize, q: usize, s: Set) -> bool {
-    q <= sets::size(s) && looseness(rows, s) <= k && !is_extendable(rows, k, s)
+// Has s as many members as the floor asks for, where the silent ones do not count?
+fn is_large(request: Request, s: Set) -> bool {
+    let silent = request.silent;
+    request.floor <= sets::size(sets::minus(s, silent))
+}
+
+// Is s a maximal k-plex, and large? Only at the floor are members silent.
+fn is_listed(rows: &[u64], request: Request, s: Set) -> bool {
+    let k = request.slack;
+    is_large(request, s) && looseness(rows, s) <= k && !is_extendable(rows, k, s)
 }
 
 // How many masks the graph has.
@@ -87,26 +95,26 @@ fn keep(slots: &mut [u64], kept: usize, s: Set, wanted: bool) -> usize
     kept + 1
 }
 
-// Stores each mask whose set is a maximal k-plex of at least q members, in rising order, and gives their number.
-pub fn list(rows: &[u64], k: usize, q: usize, slots: &mut [u64]) -> usize {
+// Stores each mask whose set is listed, in rising order, and gives their number.
+pub fn list(rows: &[u64], request: Request, slots: &mut [u64]) -> usize {
     let most = count_masks(rows);
     let mut m = 0;
     let mut mask = 0u64;
     while mask < most {
         let s = sets::of_word(mask);
-        m = keep(slots, m, s, is_listed(rows, k, q, s));
+        m = keep(slots, m, s, is_listed(rows, request, s));
         mask += 1;
     }
     m
 }
 
-// Keeps the masks of at least q members among the first m, and gives their number.
-pub fn keep_large(slots: &mut [u64], m: usize, q: usize) -> usize {
+// Keeps those of the first m masks whose sets are large, and gives their number.
+pub fn keep_large(slots: &mut [u64], m: usize, request: Request) -> usize {
     let mut kept = 0;
     let mut i = 0;
     while i < m {
         let s = words::at(slots, i);
-        kept = keep(slots, kept, s, q <= sets::size(s));
+        kept = keep(slots, kept, s, is_large(request, s));
         i += 1;
     }
     kept

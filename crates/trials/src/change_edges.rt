@@ -4,13 +4,14 @@ use crate::changes;
 use crate::changes::Change;
 use crate::changes::MASK_WORDS;
 use crate::changes::SLOT_WORDS;
-use crate::changes::ask;
 use crate::changes::joined;
 use crate::changes::parted;
 use crate::changes::with_change;
 use crate::graphs;
 use crate::graphs::EMPTY;
-use crate::lists;
+use crate::list_edges;
+use crate::requests::ask;
+use crate::requests::ask_silent;
 use crate::tally;
 use crate::tally::Tally;
 use crate::words;
@@ -149,6 +150,47 @@ fn none_listed(start: Tally) -> Tally {
     sized(cases, EMPTY, 64, ask(5, 9), joined(62, 63), &none, &none)
 }
 
+// The chord of the ring, with an end of it silent, another vertex, all.
+fn silent_ring(start: Tally) -> Tally {
+    let none = [0u64; 0];
+    let chord = [7u64, 14, 29];
+    let ring = [7u64, 14, 28];
+    let family = graphs::RING;
+    let end = ask_silent(2, 3, 1);
+    let other = ask_silent(2, 3, 16);
+    let all = ask_silent(2, 3, 31);
+    let to = joined(0, 2);
+    let mut cases = sized(start, family, 5, end, to, &chord[1..3], &ring[1..3]);
+    cases = sized(cases, family, 5, other, to, &chord, &ring[0..2]);
+    sized(cases, family, 5, all, to, &none, &none)
+}
+
+// Two vertices, of which one is silent.
+fn silent_pair(start: Tally) -> Tally {
+    let none = [0u64; 0];
+    let pair = [3u64];
+    let apart = [2u64];
+    let to = joined(0, 1);
+    let cases = sized(start, EMPTY, 2, ask_silent(1, 1, 1), to, &pair, &apart);
+    sized(cases, EMPTY, 2, ask_silent(1, 2, 1), to, &none, &none)
+}
+
+// 64 vertices of which the lower half, all but one, or all are silent.
+fn silent_of_64(start: Tally) -> Tally {
+    let none = [0u64; 0];
+    let all = [u64::MAX];
+    let lowest = [u64::MAX ^ 2, u64::MAX ^ 1];
+    let last = [u64::MAX ^ (1 << 62)];
+    let complete = graphs::COMPLETE;
+    let half = ask_silent(1, 32, u64::MAX >> 32);
+    let one = ask_silent(1, 1, u64::MAX >> 1);
+    let no_one = ask_silent(1, 1, u64::MAX);
+    let mut cases = sized(start, complete, 64, half, parted(0, 1), &lowest, &all);
+    cases = sized(cases, complete, 64, half, parted(62, 63), &none, &all);
+    cases = sized(cases, complete, 64, one, parted(62, 63), &last, &all);
+    sized(cases, complete, 64, no_one, parted(62, 63), &none, &none)
+}
+
 // The masks become those of 64 vertices that leave out one of the lowest, in rising order.
 fn all_but_one(masks: &mut [u64]) {
     let mut bit = 1u64;
@@ -197,13 +239,13 @@ fn opens(rows: &mut [u64], slots: &mut [u64]) -> bool {
     graphs::build(rows, graphs::RING, 0);
     words::fill(slots, GARBAGE);
     let found = search::list(rows, ask(2, 3), slots);
-    lists::gives(found, 0, 5)
+    list_edges::gives(found, 0, 5)
 }
 
 // Has it four with the chord from 0 to 2?
 fn adds_chord(rows: &mut [u64], slots: &mut [u64]) -> bool {
     let found = books::change(rows, ask(2, 3), 0, 2, true, slots);
-    lists::gives(found, 0, 4)
+    list_edges::gives(found, 0, 4)
 }
 
 // Does the change leave the last set of the old list, and the slot behind it?
@@ -224,7 +266,8 @@ fn opened() -> bool {
 
 pub fn found() -> Tally {
     let cases = tally::with(tally::none(), opened());
-    slack_of_5(two_of_64(none_listed(small(cases))))
+    let plain = slack_of_5(two_of_64(none_listed(small(cases))));
+    silent_of_64(silent_pair(silent_ring(plain)))
 }
 
 // The masks with one vertex of each part of two, in rising order: the lower one, or that of a digit more. Behind them comes the mask `last`.

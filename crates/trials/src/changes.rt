@@ -3,8 +3,11 @@ ghost use Prim.Native.Nat.{_≤_};
 ghost use Rattle.judging.specs.Refusal.{mostSlack};
 use crate::all_sets;
 use crate::graphs;
-use crate::lists;
+use crate::list_edges;
+use crate::requests::ask;
+use crate::requests::ask_silent;
 use crate::sheet;
+use crate::silent;
 use crate::tally;
 use crate::tally::Tally;
 use crate::words;
@@ -35,9 +38,8 @@ pub const SLOT_WORDS: usize = (MASKS + EXTRA_SLOTS) * sets::WORDS;
 // How many changes there are of each request.
 const CHANGES: usize = 3;
 
-pub fn ask(k: usize, q: usize) -> Request {
-    Request { slack: k, floor: q }
-}
+// Makes another variant of one, for other changes.
+const OTHER: usize = 1024;
 
 pub fn joined(a: usize, b: usize) -> Change {
     Change {
@@ -79,7 +81,7 @@ fn answers_beside(
     copy_rows(rows, change, number == 0, copy);
     words::fill(slots, GARBAGE);
     let found = books::change(rows, request, change.a, change.b, change.adjacent, slots);
-    lists::gives(found, number, value)
+    list_edges::gives(found, number, value)
         & words::same_front(rows, copy, sets::count(rows))
         & words::same_front(slots, masks, m)
         & words::all_are(slots, m, GARBAGE)
@@ -257,7 +259,7 @@ fn list_changed(
 ) -> usize {
     copy_rows(rows, change, true, copy);
     let end = words::end(copy, sets::count(rows));
-    all_sets::list(&copy[0..end], request.slack, request.floor, masks)
+    all_sets::list(&copy[0..end], request, masks)
 }
 
 // The same with memory for the changed graph.
@@ -301,7 +303,7 @@ pub fn changes(
     cases
 }
 
-// One slack: the two least floors.
+// One slack: the two least floors, and the least with the silent vertices that the variant decides.
 fn floors(
     cases: Tally,
     rows: &mut [u64],
@@ -312,8 +314,10 @@ fn floors(
 ) -> Tally
     requires { ⌜ (1 ≤ k) × (k ≤ mostSlack) ⌝ }
 {
+    let silent = ask_silent(k, 2 * k - 1, silent::of_variant(rows, variant));
     let least = changes(cases, rows, ask(k, 2 * k - 1), variant, masks, slots);
-    changes(least, rows, ask(k, 2 * k), variant, masks, slots)
+    let next = changes(least, rows, ask(k, 2 * k), variant, masks, slots);
+    changes(next, rows, silent, variant ^ OTHER, masks, slots)
 }
 
 // One graph, where it has an edge to change. The variant decides the slack.

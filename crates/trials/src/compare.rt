@@ -8,7 +8,9 @@ use crate::graphs;
 use crate::largest_plex;
 use crate::looseness;
 use crate::refusals;
+use crate::requests::ask_silent;
 use crate::sheet;
+use crate::silent;
 use crate::tally;
 use crate::tally::Tally;
 use crate::words;
@@ -26,17 +28,20 @@ const MOST_ASKED: usize = 10;
 // The most vertices where all sets are tried after each change.
 const MOST_CHANGED: usize = 14;
 
+// The most vertices where they are tried for each of some silent sets.
+const MOST_SILENT: usize = 12;
+
 pub const MOST_FLOOR: usize = 64;
 
 // More than a graph of 16 vertices has maximal k-plexes.
 const MASKS: usize = 16384;
 
-const MASK_WORDS: usize = MASKS * sets::WORDS;
+pub const MASK_WORDS: usize = MASKS * sets::WORDS;
 
 // How many slots more than needed.
 const EXTRA_SLOTS: usize = 3;
 
-const SLOT_WORDS: usize = (MASKS + EXTRA_SLOTS) * sets::WORDS;
+pub const SLOT_WORDS: usize = (MASKS + EXTRA_SLOTS) * sets::WORDS;
 
 const ROW_WORDS: usize = MOST_VERTICES * sets::WORDS;
 
@@ -79,8 +84,8 @@ fn with_slots(
     tally::with(cases, right)
 }
 
-// One floor: slots just enough, more, and too few by one.
-fn floor(
+// One request with m masks: slots just enough, more, and too few by one.
+pub fn with_request(
     cases: Tally,
     rows: &[u64],
     request: Request,
@@ -99,36 +104,54 @@ fn floor(
     with_slots(longer, rows, request, masks, m, slots, m - 1)
 }
 
-// One slack: every floor that is allowed beside it. The masks are those of the least.
-fn floors(start: Tally, rows: &[u64], k: usize, masks: &mut [u64], slots: &mut [u64]) -> Tally
+// One slack: every floor that is allowed beside it, up to the last. The masks are those of the least.
+fn floors(
+    start: Tally,
+    rows: &[u64],
+    k: usize,
+    silent: u64,
+    last: usize,
+    masks: &mut [u64],
+    slots: &mut [u64],
+) -> Tally
     requires { ⌜ (1 ≤ k) × (k ≤ mostSlack) ⌝ }
 {
+    let least = 2 * k - 1;
     let mut cases = start;
-    let mut q = 2 * k - 1;
-    let mut m = all_sets::list(rows, k, q, masks);
-    while q <= MOST_FLOOR {
-        m = all_sets::keep_large(masks, m, q);
-        cases = floor(cases, rows, Request { slack: k, floor: q }, masks, m, slots);
+    let mut m = all_sets::list(rows, ask_silent(k, least, silent), masks);
+    let mut q = least - 1;
+    while q < last {
         q += 1;
+        let request = ask_silent(k, q, silent);
+        m = all_sets::keep_large(masks, m, request);
+        cases = with_request(cases, rows, request, masks, m, slots);
     }
     cases
 }
 
-// One graph: every slack.
-fn graph(cases: Tally, rows: &[u64]) -> Tally {
-    let mut masks = [0u64; MASK_WORDS];
-    let mut slots = [0u64; SLOT_WORDS];
-    slacks(cases, rows, &mut masks, &mut slots)
-}
-
-fn slacks(start: Tally, rows: &[u64], masks: &mut [u64], slots: &mut [u64]) -> Tally {
+// One graph and the mask of its silent vertices: every slack.
+pub fn slacks(
+    start: Tally,
+    rows: &[u64],
+    silent: u64,
+    last: usize,
+    masks: &mut [u64],
+    slots: &mut [u64],
+) -> Tally {
     let mut cases = start;
     let mut k = 1;
     while k <= MOST_SLACK {
-        cases = floors(cases, rows, k, masks, slots);
+        cases = floors(cases, rows, k, silent, last, masks, slots);
         k += 1;
     }
     cases
+}
+
+// One graph without silent vertices: every slack, and every floor.
+fn graph(cases: Tally, rows: &[u64]) -> Tally {
+    let mut masks = [0u64; MASK_WORDS];
+    let mut slots = [0u64; SLOT_WORDS];
+    slacks(cases, rows, 0, MOST_FLOOR, &mut masks, &mut slots)
 }
 
 // The call that is compared.
@@ -138,6 +161,7 @@ pub enum Call {
     Looseness,
     Change,
     Core,
+    Silent,
 }
 
 // The graph of the family with a vertex for each row.
@@ -149,6 +173,7 @@ fn built(cases: Tally, call: Call, rows: &mut [u64], family: usize, variant: usi
         Call::Looseness => looseness::graph(cases, rows),
         Call::Change => changes::graph(cases, rows, variant),
         Call::Core => cores::graph(cases, rows),
+        Call::Silent => silent::graph(cases, rows, variant),
     }
 }
 
@@ -170,7 +195,7 @@ fn variants(start: Tally, call: Call, family: usize, n: usize, most: usize) -> T
     cases
 }
 
-// Where every set is asked for, and where the graphs are changed, they are smaller.
+// Where every set is asked for, and where the graphs are changed or have silent vertices, they are smaller.
 fn most_vertices(call: Call) -> usize {
     match call {
         Call::List => MOST_VERTICES,
@@ -178,6 +203,7 @@ fn most_vertices(call: Call) -> usize {
         Call::Looseness => MOST_ASKED,
         Call::Change => MOST_CHANGED,
         Call::Core => MOST_ASKED,
+        Call::Silent => MOST_SILENT,
     }
 }
 

@@ -4,12 +4,12 @@ ghost use Rattle.judging.specs.Refusal.{mostSlack};
 use crate::compare::MOST_FLOOR;
 use crate::graphs;
 use crate::graphs::EMPTY;
+use crate::requests::ask;
 use crate::sheet;
 use crate::tally;
 use crate::tally::Tally;
 use crate::words;
 use bounds::CoreFound;
-use judging::Request;
 use judging::check::MOST_SLACK;
 use sets::Set;
 
@@ -33,7 +33,7 @@ fn gives(found: CoreFound, want: Set, passes: usize) -> bool {
 // The graph of the family with a vertex for each row.
 fn built(rows: &mut [u64], family: usize, k: usize, q: usize, mask: u64, passes: usize) -> bool {
     graphs::build(rows, family, 0);
-    let found = bounds::find_core(rows, Request { slack: k, floor: q });
+    let found = bounds::find_core(rows, k, q);
     gives(found, sets::of_word(mask), passes)
 }
 
@@ -123,7 +123,7 @@ fn all(rows: &[u64]) -> Set {
 fn agrees(rows: &[u64], k: usize, q: usize) -> bool
     requires { ⌜ k ≤ q ⌝ }
 {
-    let found = bounds::find_core(rows, Request { slack: k, floor: q });
+    let found = bounds::find_core(rows, k, q);
     let mut s = all(rows);
     let mut passes = 1;
     while passes <= MOST_PASSES {
@@ -143,7 +143,7 @@ fn with_floor(cases: Tally, rows: &[u64], k: usize, q: usize) -> Tally
 {
     let right = agrees(rows, k, q);
     if !right {
-        sheet::print(rows, Request { slack: k, floor: q });
+        sheet::print(rows, ask(k, q));
     }
     tally::with(cases, right)
 }

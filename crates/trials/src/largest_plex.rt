@@ -4,13 +4,13 @@ use crate::graphs;
 use crate::graphs::EMPTY;
 use crate::graphs::NOWHERE;
 use crate::refusals;
+use crate::requests::ask;
 use crate::sheet;
 use crate::tally;
 use crate::tally::Tally;
 use crate::words;
 use crate::words::GARBAGE;
 use judging::Refusal;
-use judging::Request;
 use judging::check::MOST_SLACK;
 use largest::LargestFound;
 use sets::Set;
@@ -182,13 +182,7 @@ fn agrees(rows: &[u64], k: usize, forced: Set) -> bool {
 fn with_forced(cases: Tally, rows: &[u64], k: usize, forced: Set) -> Tally {
     let right = agrees(rows, k, forced);
     if !right {
-        sheet::print(
-            rows,
-            Request {
-                slack: k,
-                floor: FLOOR,
-            },
-        );
+        sheet::print(rows, ask(k, FLOOR));
     }
     tally::with(cases, right)
 }

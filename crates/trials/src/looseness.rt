@@ -4,13 +4,13 @@ use crate::graphs;
 use crate::graphs::EMPTY;
 use crate::graphs::NOWHERE;
 use crate::refusals;
+use crate::requests::ask;
 use crate::sheet;
 use crate::tally;
 use crate::tally::Tally;
 use crate::words;
 use crate::words::GARBAGE;
 use judging::LoosenessFound;
-use judging::Request;
 use sets::Set;
 
 // Is the set so loose, number 0; or else is it this refusal with this value?
@@ -110,7 +110,7 @@ pub fn refused() -> Tally {
 fn with_set(cases: Tally, rows: &[u64], s: Set) -> Tally {
     let right = gives(judging::looseness(rows, s), 0, all_sets::looseness(rows, s));
     if !right {
-        sheet::print(rows, Request { slack: 1, floor: 1 });
+        sheet::print(rows, ask(1, 1));
     }
     tally::with(cases, right)
 }

@@ -1,7 +1,7 @@
-// Runs the edge cases of documents 01 and 02 that are not proved, and compares with trying all sets: the lists for graphs of 1 to 16 vertices, for graphs
-// of 1 to 10 the largest k-plex with each set forced, how loose each set is, and the core of each slack and floor with its passes, and for graphs of 2 to 14
-// the list after each of some changes. Prints a line for each group: how many cases it has, and how many of them differ. Where an answer differs, its graph
-// is printed as a sheet.
+// Runs the edge cases of documents 01 and 02 that are not proved, and compares with trying all sets: the lists for graphs of 1 to 16 vertices, and with each
+// of some silent sets for graphs of 1 to 12, for graphs of 1 to 10 the largest k-plex with each set forced, how loose each set is, and the core of each slack
+// and floor with its passes, and for graphs of 2 to 14 the list after each of some changes. Prints a line for each group: how many cases it has, and how many
+// of them differ. Where an answer differs, its graph is printed as a sheet.
 mod all_sets;
 mod change_edges;
 mod change_refusals;
@@ -10,10 +10,12 @@ mod compare;
 mod cores;
 mod graphs;
 mod largest_plex;
-mod lists;
+mod list_edges;
 mod looseness;
 mod refusals;
+mod requests;
 mod sheet;
+mod silent;
 mod tally;
 mod words;
 
@@ -28,10 +30,11 @@ const RANDOM: usize = 210;
 const CHANGED: usize = 8 * MOST_SLACK;
 
 fn list_cases() {
-    tally::print(b"accepted slack and floor", lists::ranges());
-    tally::print(b"all of 64 adjacent", lists::all_adjacent());
-    tally::print(b"floor above n, no slots", lists::none());
-    tally::print(b"refusals of the list", lists::refused());
+    tally::print(b"accepted slack and floor", list_edges::ranges());
+    tally::print(b"all of 64 adjacent", list_edges::all_adjacent());
+    tally::print(b"floor above n, no slots", list_edges::none());
+    tally::print(b"silent vertices", silent::found());
+    tally::print(b"refusals of the list", list_edges::refused());
 }
 
 fn refusal_cases() {
@@ -43,6 +46,7 @@ fn refusal_cases() {
 fn sheet_cases() {
     tally::print(b"sheets read", sheet::read());
     tally::print(b"sheets written", sheet::written());
+    tally::print(b"sheets read back", sheet::read_back());
 }
 
 fn looseness_cases() {
@@ -81,7 +85,7 @@ fn comparisons() {
     tally::print(b"pseudo-random graphs", listed(graphs::RANDOM, RANDOM));
 }
 
-// Another call on the same graphs, where they have at most 10 vertices.
+// Another call on the same graphs, where they have at most 10 vertices, or the lists with silent vertices, where they have at most 12.
 fn every_graph(call: Call) -> Tally {
     let mut cases = compare::group(tally::none(), call, graphs::COMPLETE, 1);
     cases = compare::group(cases, call, graphs::RING, 1);
@@ -112,6 +116,10 @@ fn main() {
     largest_cases();
     change_cases();
     comparisons();
+    tally::print(
+        b"silent vertices against all sets",
+        every_graph(Call::Silent),
+    );
     tally::print(b"largest against all sets", every_graph(Call::Largest));
     tally::print(
         b"looseness against the definition",

@@ -8,7 +8,6 @@ use bounds::CoreFound;
 use bounds::ReachFound;
 use judging::Judged;
 use judging::Refusal;
-use judging::Request;
 
 // Is the refusal this number and this value?
 pub fn is(f: Refusal, number: usize, value: usize) -> bool {
@@ -54,11 +53,7 @@ fn judge(own: usize, one: usize, k: usize, mask: u64, number: usize, value: usiz
 fn core(own: usize, one: usize, k: usize, q: usize, number: usize, value: usize) -> bool {
     let mut rows = [0u64; 5 * sets::WORDS];
     graphs::build_faulty(&mut rows, own, NOWHERE, one);
-    core_gives(
-        bounds::find_core(&rows, Request { slack: k, floor: q }),
-        number,
-        value,
-    )
+    core_gives(bounds::find_core(&rows, k, q), number, value)
 }
 
 fn reach(own: usize, one: usize, v: usize, number: usize, value: usize) -> bool {
@@ -91,17 +86,7 @@ fn no_rows() -> bool {
     let rows = [0u64; 0];
     let s = sets::of_word(32);
     judge_gives(judging::judge_maximal(&rows, 0, s), 1, 0)
-        & core_gives(
-            bounds::find_core(
-                &rows,
-                Request {
-                    slack: 0,
-                    floor: 65,
-                },
-            ),
-            1,
-            0,
-        )
+        & core_gives(bounds::find_core(&rows, 0, 65), 1, 0)
         & reach_gives(bounds::find_reach(&rows, 0), 1, 0)
         & bound_gives(bounds::first_bound(&rows, 0, s, s, 5), 1, 0)
         & bound_gives(bounds::second_bound(&rows, 0, s, s, 5), 1, 0)

@@ -1,6 +1,10 @@
 // Sheets, read and written at their edge cases; and the sheet of a graph, printed.
 use crate::graphs;
+use crate::graphs::EMPTY;
 use crate::refusals;
+use crate::requests;
+use crate::requests::ask;
+use crate::requests::ask_silent;
 use crate::tally;
 use crate::tally::Tally;
 use crate::words;
@@ -11,16 +15,21 @@ use sheets::SheetRead;
 use sheets::SheetWritten;
 
 // The longest sheet.
-const MOST_TEXT: usize = 1095;
+const MOST_TEXT: usize = 1112;
 
 // The sheet of five vertices.
-const LENGTH: usize = 92;
+const LENGTH: usize = 109;
+
+// Line 2, the silent set, starts there, and is as long as every later line.
+const LINE_2_AT: usize = 7;
+
+const LINE_LENGTH: usize = 17;
 
 // What bytes hold before a call.
 const OLD: u8 = 63;
 
 // No byte of a text of five vertices is there.
-const NOWHERE: usize = 100;
+const NOWHERE: usize = 120;
 
 fn print_front(text: &[u8], n: usize) {
     if n <= text.len() {
@@ -65,12 +74,14 @@ fn wipe(text: &mut [u8]) {
     }
 }
 
-// Line 1 says n, k and q, whatever they are.
-fn head(text: &mut [u8], n: usize, k: usize, q: usize) {
-    if 6 <= text.len() {
+// Line 1 says n, k and q, and line 2 which vertices are silent, whatever they are.
+fn head(text: &mut [u8], n: usize, request: Request) {
+    let silent = request.silent;
+    if 23 <= text.len() {
         sheets::digits::write(&mut text[0..2], n as u64);
-        sheets::digits::write(&mut text[2..4], k as u64);
-        sheets::digits::write(&mut text[4..6], q as u64);
+        sheets::digits::write(&mut text[2..4], request.slack as u64);
+        sheets::digits::write(&mut text[4..6], request.floor as u64);
+        sheets::digits::write(&mut text[7..23], sets::word(silent, 0));
     }
 }
 
@@ -78,46 +89,54 @@ fn head(text: &mut [u8], n: usize, k: usize, q: usize) {
 fn ring(text: &mut [u8]) -> SheetWritten {
     let mut rows = [0u64; 5 * sets::WORDS];
     graphs::build(&mut rows, graphs::RING, 0);
-    sheets::write_sheet(&rows, Request { slack: 2, floor: 3 }, text)
+    sheets::write_sheet(&rows, ask(2, 3), text)
 }
 
-fn read_gives(found: SheetRead, number: usize, value: usize) -> bool {
+// Is the answer n vertices and this request, number 0; or else this refusal with this value?
+fn read_gives(found: SheetRead, n: usize, asked: Request, number: usize, value: usize) -> bool {
     match found {
         SheetRead::Read { vertices, request } => {
-            (number == 0) & (vertices == 5) & (request.slack == 2) & (request.floor == 3)
+            (number == 0) & (vertices == n) & requests::same(request, asked)
         }
         SheetRead::Refused(f) => refusals::is(f, number, value),
     }
 }
 
-// Does the text give this answer, and are the rows, garbage before, kept from `from` on?
-fn reads(text: &[u8], rows: &mut [u64], number: usize, value: usize, from: usize) -> bool {
+// Does the text give this answer, and are the rows, garbage before, kept, or else from n on?
+fn reads(
+    text: &[u8],
+    rows: &mut [u64],
+    n: usize,
+    request: Request,
+    number: usize,
+    value: usize,
+) -> bool {
     words::fill(rows, GARBAGE);
     let found = sheets::read_sheet(text, rows);
-    read_gives(found, number, value) & words::all_are(rows, from, GARBAGE)
+    let from = if number == 0 { n } else { 0 };
+    read_gives(found, n, request, number, value) & words::all_are(rows, from, GARBAGE)
 }
 
+// The same of the text's front.
 fn reads_front(
     text: &[u8],
     length: usize,
     rows: &mut [u64],
-    room: usize,
+    n: usize,
+    request: Request,
     number: usize,
     value: usize,
 ) -> bool {
-    if text.len() < length || sets::count(rows) < room {
+    if text.len() < length {
         return false;
     }
-    let from = if number == 0 { 5usize } else { 0usize };
-    let end = words::end(rows, room);
-    reads(&text[0..length], &mut rows[0..end], number, value, from)
+    reads(&text[0..length], rows, n, request, number, value)
 }
 
-// The ring's sheet with another line 1, another byte at the position `at`, and cut to the length, is read into so many rows.
+// The ring's sheet with other lines 1 and 2, another byte at the position `at`, and cut to the length, is read into so many rows.
 fn damaged(
     n: usize,
-    k: usize,
-    q: usize,
+    request: Request,
     at: usize,
     b: u8,
     length: usize,
@@ -127,49 +146,104 @@ fn damaged(
 ) -> bool {
     let mut text = [OLD; NOWHERE];
     let mut rows = [0u64; 6 * sets::WORDS];
+    let end = words::end(&rows, room);
     ring(&mut text);
-    head(&mut text, n, k, q);
+    head(&mut text, n, request);
     put(&mut text, at, b);
-    reads_front(&text, length, &mut rows, room, number, value)
+    reads_front(&text, length, &mut rows[0..end], n, request, number, value)
 }
 
-// The same with the ring's own line 1.
+// The same with the ring's own lines 1 and 2.
 fn cut(at: usize, b: u8, length: usize, room: usize, number: usize, value: usize) -> bool {
-    damaged(5, 2, 3, at, b, length, room, number, value)
+    damaged(5, ask(2, 3), at, b, length, room, number, value)
 }
 
-// Line 1 by 8, then 1, 2, 3, the other lines by 8, then 4, 5, 9.
-fn heading_read() -> Tally {
-    let mut cases = tally::with(tally::none(), cut(NOWHERE, 0, 0, 0, 8, 1));
-    cases = tally::with(cases, damaged(0, 0, 65, NOWHERE, 0, 6, 0, 8, 1));
-    cases = tally::with(cases, damaged(0, 0, 65, 5, 97, LENGTH, 0, 8, 1));
-    cases = tally::with(cases, damaged(0, 0, 65, NOWHERE, 0, 93, 0, 1, 0));
-    cases = tally::with(cases, damaged(65, 0, 65, NOWHERE, 0, 93, 0, 1, 0));
-    cases = tally::with(cases, damaged(5, 0, 65, NOWHERE, 0, 93, 0, 2, 0));
-    cases = tally::with(cases, damaged(5, 6, 64, NOWHERE, 0, 93, 0, 2, 0));
-    cases = tally::with(cases, damaged(5, 6, 8, NOWHERE, 0, 93, 0, 2, 0));
-    cases = tally::with(cases, damaged(5, 5, 8, NOWHERE, 0, 93, 0, 3, 0));
-    cases = tally::with(cases, damaged(5, 1, 65, NOWHERE, 0, 93, 0, 3, 0));
-    cases = tally::with(cases, damaged(5, 5, 9, NOWHERE, 0, 93, 0, 8, 7));
-    tally::with(cases, damaged(5, 1, 64, NOWHERE, 0, LENGTH, 4, 9, 5))
+// The same where only line 2 is another.
+fn silenced(silent: u64, at: usize, b: u8, length: usize, number: usize, value: usize) -> bool {
+    damaged(5, ask_silent(2, 3, silent), at, b, length, 5, number, value)
 }
 
-fn rows_read(heading: Tally) -> Tally {
-    let mut cases = tally::with(heading, cut(22, 51, 93, 0, 8, 7));
-    cases = tally::with(cases, cut(24, 120, 93, 0, 8, 3));
-    cases = tally::with(cases, cut(NOWHERE, 0, 91, 0, 8, 6));
-    cases = tally::with(cases, cut(NOWHERE, 0, 75, 0, 8, 6));
+// Line 1 by 8, then 1, 2, 3, the other lines by 8, then 7, 4, 5, 9.
+fn heading_read(start: Tally) -> Tally {
+    let wrong = ask_silent(0, 65, 32);
+    let mut cases = tally::with(start, cut(NOWHERE, 0, 0, 0, 8, 1));
+    cases = tally::with(cases, damaged(0, wrong, NOWHERE, 0, 6, 0, 8, 1));
+    cases = tally::with(cases, damaged(0, wrong, 5, 97, LENGTH, 0, 8, 1));
+    cases = tally::with(cases, damaged(0, wrong, NOWHERE, 0, 110, 0, 1, 0));
+    cases = tally::with(cases, damaged(65, wrong, NOWHERE, 0, 110, 0, 1, 0));
+    cases = tally::with(cases, damaged(5, wrong, NOWHERE, 0, 110, 0, 2, 0));
+    cases = tally::with(cases, damaged(5, ask(6, 64), NOWHERE, 0, 110, 0, 2, 0));
+    cases = tally::with(cases, damaged(5, ask(6, 8), NOWHERE, 0, 110, 0, 2, 0));
+    cases = tally::with(cases, damaged(5, ask(5, 8), NOWHERE, 0, 110, 0, 3, 0));
+    cases = tally::with(cases, damaged(5, ask(1, 65), NOWHERE, 0, 110, 0, 3, 0));
+    cases = tally::with(cases, damaged(5, ask(5, 9), NOWHERE, 0, 110, 0, 8, 8));
+    tally::with(cases, damaged(5, ask(1, 64), NOWHERE, 0, LENGTH, 4, 9, 5))
+}
+
+fn rows_read(start: Tally) -> Tally {
+    let mut cases = tally::with(start, cut(39, 51, 110, 0, 8, 8));
+    cases = tally::with(cases, cut(41, 120, 110, 0, 8, 4));
+    cases = tally::with(cases, cut(NOWHERE, 0, 108, 0, 8, 7));
+    cases = tally::with(cases, cut(NOWHERE, 0, 92, 0, 8, 7));
     cases = tally::with(cases, cut(NOWHERE, 0, 7, 0, 8, 2));
-    cases = tally::with(cases, cut(56, 67, LENGTH, 4, 4, 2));
-    cases = tally::with(cases, cut(22, 51, LENGTH, 4, 4, 0));
-    cases = tally::with(cases, cut(90, 49, LENGTH, 4, 5, 3));
+    cases = tally::with(cases, cut(73, 67, LENGTH, 4, 4, 2));
+    cases = tally::with(cases, cut(39, 51, LENGTH, 4, 4, 0));
+    cases = tally::with(cases, cut(107, 49, LENGTH, 4, 5, 3));
     cases = tally::with(cases, cut(NOWHERE, 0, LENGTH, 4, 9, 5));
     cases = tally::with(cases, cut(NOWHERE, 0, LENGTH, 5, 0, 0));
     tally::with(cases, cut(NOWHERE, 0, LENGTH, 6, 0, 0))
 }
 
+// Line 2 wrong: another byte first, last, or in place of byte 10; byte 10 too early; cut short. The line after it missing.
+fn silent_line_read(start: Tally) -> Tally {
+    let mut cases = tally::with(start, cut(7, 120, LENGTH, 0, 8, 2));
+    cases = tally::with(cases, cut(22, 97, 110, 0, 8, 2));
+    cases = tally::with(cases, cut(23, 48, 30, 0, 8, 2));
+    cases = tally::with(cases, cut(22, 10, LENGTH, 0, 8, 2));
+    cases = tally::with(cases, cut(NOWHERE, 0, 8, 0, 8, 2));
+    cases = tally::with(cases, cut(NOWHERE, 0, 23, 0, 8, 2));
+    cases = tally::with(cases, cut(NOWHERE, 0, 24, 0, 8, 3));
+    cases = tally::with(cases, damaged(0, ask(0, 65), 7, 120, LENGTH, 0, 1, 0));
+    cases = tally::with(cases, damaged(5, ask(0, 65), 7, 120, LENGTH, 0, 2, 0));
+    cases = tally::with(cases, damaged(5, ask(1, 65), 7, 120, LENGTH, 0, 3, 0));
+    tally::with(cases, damaged(4, ask(2, 3), NOWHERE, 0, LENGTH, 0, 8, 7))
+}
+
+// The silent set reaches n: after 1, 2, 3 and every line by 8, and before 4, 5 and 9. One that does not is read.
+fn silent_read(start: Tally) -> Tally {
+    let mut cases = tally::with(
+        start,
+        damaged(5, ask_silent(6, 64, 32), NOWHERE, 0, LENGTH, 5, 2, 0),
+    );
+    cases = tally::with(
+        cases,
+        damaged(5, ask_silent(2, 2, 32), NOWHERE, 0, LENGTH, 5, 3, 0),
+    );
+    cases = tally::with(cases, silenced(32, 106, 120, LENGTH, 8, 7));
+    cases = tally::with(cases, silenced(32, NOWHERE, 0, 108, 8, 7));
+    cases = tally::with(cases, silenced(32, NOWHERE, 0, 110, 8, 8));
+    cases = tally::with(cases, silenced(32, 73, 67, LENGTH, 7, 0));
+    cases = tally::with(cases, silenced(32, 107, 49, LENGTH, 7, 0));
+    cases = tally::with(
+        cases,
+        damaged(5, ask_silent(2, 3, 32), NOWHERE, 0, LENGTH, 4, 7, 0),
+    );
+    cases = tally::with(cases, silenced(32, NOWHERE, 0, LENGTH, 7, 0));
+    cases = tally::with(cases, silenced(1 << 63, NOWHERE, 0, LENGTH, 7, 0));
+    cases = tally::with(cases, silenced(u64::MAX, NOWHERE, 0, LENGTH, 7, 0));
+    cases = tally::with(cases, silenced(16, 73, 67, LENGTH, 4, 2));
+    cases = tally::with(cases, silenced(16, 107, 49, LENGTH, 5, 3));
+    cases = tally::with(
+        cases,
+        damaged(5, ask_silent(2, 3, 16), NOWHERE, 0, LENGTH, 4, 9, 5),
+    );
+    cases = tally::with(cases, silenced(1, NOWHERE, 0, LENGTH, 0, 0));
+    cases = tally::with(cases, silenced(16, NOWHERE, 0, LENGTH, 0, 0));
+    tally::with(cases, silenced(31, NOWHERE, 0, LENGTH, 0, 0))
+}
+
 pub fn read() -> Tally {
-    rows_read(heading_read())
+    silent_read(silent_line_read(rows_read(heading_read(tally::none()))))
 }
 
 fn write_gives(found: SheetWritten, number: usize, value: usize) -> bool {
@@ -197,8 +271,7 @@ fn writes(
 fn faulty(
     own: usize,
     one: usize,
-    k: usize,
-    q: usize,
+    request: Request,
     room: usize,
     number: usize,
     value: usize,
@@ -210,26 +283,150 @@ fn faulty(
         return false;
     }
     let from = if number == 0 { LENGTH } else { 0usize };
-    writes(
-        &rows,
-        Request { slack: k, floor: q },
-        &mut text[0..room],
-        number,
-        value,
-        from,
-    )
+    writes(&rows, request, &mut text[0..room], number, value, from)
+}
+
+// n rows that are all wrong are written.
+fn wrong(n: usize, request: Request, number: usize) -> bool {
+    let mut text = [0u8; NOWHERE];
+    let rows = [GARBAGE; 65 * sets::WORDS];
+    let end = words::end(&rows, n);
+    writes(&rows[0..end], request, &mut text, number, 0, 0)
 }
 
 // 1, 2, 3, 4, 5, 9
+fn plain_written(start: Tally) -> Tally {
+    let mut cases = tally::with(start, faulty(3, 1, ask(0, 65), 108, 2, 0));
+    cases = tally::with(cases, faulty(3, 1, ask(6, 8), 108, 2, 0));
+    cases = tally::with(cases, faulty(3, 1, ask(5, 8), 108, 3, 0));
+    cases = tally::with(cases, faulty(3, 1, ask(1, 65), 108, 3, 0));
+    cases = tally::with(cases, faulty(3, 1, ask(2, 3), 108, 4, 3));
+    cases = tally::with(cases, faulty(64, 1, ask(2, 3), 108, 5, 1));
+    cases = tally::with(cases, faulty(64, 64, ask(2, 3), 108, 9, LENGTH));
+    cases = tally::with(cases, faulty(64, 64, ask(2, 3), 0, 9, LENGTH));
+    cases = tally::with(cases, faulty(64, 64, ask(2, 3), LENGTH, 0, LENGTH));
+    tally::with(cases, faulty(64, 64, ask(5, 9), NOWHERE, 0, LENGTH))
+}
+
+// 7 for the silent set, after 1, 2 and 3, and before 4, 5 and 9; and a silent set of the graph.
+fn silent_written(start: Tally) -> Tally {
+    let over = ask_silent(2, 3, 32);
+    let silent = ask_silent(2, 3, 16);
+    let mut cases = tally::with(start, wrong(0, ask_silent(1, 1, 1), 1));
+    cases = tally::with(cases, wrong(65, ask_silent(0, 65, u64::MAX), 1));
+    cases = tally::with(cases, wrong(64, ask_silent(0, 65, u64::MAX), 2));
+    cases = tally::with(cases, faulty(3, 1, ask_silent(6, 11, 32), 108, 2, 0));
+    cases = tally::with(cases, faulty(3, 1, ask_silent(2, 2, 32), 108, 3, 0));
+    cases = tally::with(cases, faulty(3, 1, over, 108, 7, 0));
+    cases = tally::with(cases, faulty(64, 1, over, 108, 7, 0));
+    cases = tally::with(cases, faulty(64, 64, over, 108, 7, 0));
+    cases = tally::with(cases, faulty(64, 64, over, NOWHERE, 7, 0));
+    cases = tally::with(
+        cases,
+        faulty(64, 64, ask_silent(2, 3, u64::MAX), LENGTH, 7, 0),
+    );
+    cases = tally::with(cases, faulty(3, 1, silent, 108, 4, 3));
+    cases = tally::with(cases, faulty(64, 1, silent, 108, 5, 1));
+    cases = tally::with(cases, faulty(64, 64, silent, 108, 9, LENGTH));
+    cases = tally::with(cases, faulty(64, 64, silent, LENGTH, 0, LENGTH));
+    tally::with(
+        cases,
+        faulty(64, 64, ask_silent(2, 3, 31), NOWHERE, 0, LENGTH),
+    )
+}
+
 pub fn written() -> Tally {
-    let mut cases = tally::with(tally::none(), faulty(3, 1, 0, 65, 91, 2, 0));
-    cases = tally::with(cases, faulty(3, 1, 6, 8, 91, 2, 0));
-    cases = tally::with(cases, faulty(3, 1, 5, 8, 91, 3, 0));
-    cases = tally::with(cases, faulty(3, 1, 1, 65, 91, 3, 0));
-    cases = tally::with(cases, faulty(3, 1, 2, 3, 91, 4, 3));
-    cases = tally::with(cases, faulty(64, 1, 2, 3, 91, 5, 1));
-    cases = tally::with(cases, faulty(64, 64, 2, 3, 91, 9, LENGTH));
-    cases = tally::with(cases, faulty(64, 64, 2, 3, 0, 9, LENGTH));
-    cases = tally::with(cases, faulty(64, 64, 2, 3, LENGTH, 0, LENGTH));
-    tally::with(cases, faulty(64, 64, 5, 9, 100, 0, LENGTH))
+    silent_written(plain_written(tally::none()))
+}
+
+// The text becomes the sheet of the graph of the family with a vertex for each row. Gives the sheet's length, or 0 where it is refused.
+fn write_built(rows: &mut [u64], family: usize, request: Request, text: &mut [u8]) -> usize {
+    graphs::build(rows, family, 0);
+    let written = sheets::write_sheet(rows, request, text);
+    match written {
+        SheetWritten::Written(length) => length,
+        SheetWritten::Refused(_) => 0,
+    }
+}
+
+// Is it read back from its sheet, with the request?
+fn gives_back(
+    rows: &mut [u64],
+    family: usize,
+    request: Request,
+    text: &mut [u8],
+    stored: &mut [u64],
+) -> bool {
+    let n = sets::count(rows);
+    let length = write_built(rows, family, request, text);
+    reads_front(text, length, stored, n, request, 0, 0) & words::same_front(stored, rows, n)
+}
+
+// The same with n rows.
+fn reads_back(family: usize, n: usize, request: Request) -> bool {
+    let mut text = [OLD; MOST_TEXT];
+    let mut rows = [0u64; sets::TABLE];
+    let mut stored = [0u64; 65 * sets::WORDS];
+    let end = words::end(&rows, n);
+    gives_back(&mut rows[0..end], family, request, &mut text, &mut stored)
+}
+
+// Takes line 2 out: what is left of a sheet is one of before there were silent vertices.
+fn drop_silent_line(text: &mut [u8]) {
+    let mut i = LINE_2_AT + LINE_LENGTH;
+    while i < text.len() {
+        text[i - LINE_LENGTH] = text[i];
+        i += 1;
+    }
+}
+
+// Is the sheet of the same graph, as it was then, refused with 8 at this line?
+fn lacks_line(family: usize, n: usize, line: usize) -> bool {
+    let mut text = [OLD; MOST_TEXT];
+    let mut rows = [0u64; sets::TABLE];
+    let mut stored = [0u64; 65 * sets::WORDS];
+    let end = words::end(&rows, n);
+    let length = write_built(&mut rows[0..end], family, ask(1, 1), &mut text);
+    if length < LINE_LENGTH {
+        return false;
+    }
+    drop_silent_line(&mut text);
+    reads_front(
+        &text,
+        length - LINE_LENGTH,
+        &mut stored,
+        n,
+        ask(1, 1),
+        8,
+        line,
+    )
+}
+
+// Some silent sets, and the line n + 2 of a sheet without one.
+pub fn read_back() -> Tally {
+    let mut cases = tally::with(tally::none(), reads_back(EMPTY, 1, ask_silent(1, 1, 0)));
+    cases = tally::with(cases, reads_back(EMPTY, 1, ask_silent(1, 64, 1)));
+    cases = tally::with(cases, reads_back(graphs::RING, 5, ask_silent(2, 3, 0)));
+    cases = tally::with(cases, reads_back(graphs::RING, 5, ask_silent(2, 3, 5)));
+    cases = tally::with(cases, reads_back(graphs::RING, 5, ask_silent(5, 9, 31)));
+    cases = tally::with(
+        cases,
+        reads_back(graphs::COMPLETE, 63, ask_silent(1, 1, 1 << 62)),
+    );
+    cases = tally::with(
+        cases,
+        reads_back(graphs::COMPLETE, 64, ask_silent(1, 1, 1 << 63)),
+    );
+    cases = tally::with(
+        cases,
+        reads_back(graphs::PATH, 64, ask_silent(3, 5, GARBAGE)),
+    );
+    cases = tally::with(
+        cases,
+        reads_back(graphs::STAR, 64, ask_silent(5, 64, u64::MAX)),
+    );
+    cases = tally::with(cases, lacks_line(EMPTY, 1, 3));
+    cases = tally::with(cases, lacks_line(graphs::RING, 5, 7));
+    cases = tally::with(cases, lacks_line(graphs::COMPLETE, 63, 65));
+    tally::with(cases, lacks_line(graphs::COMPLETE, 64, 66))
 }

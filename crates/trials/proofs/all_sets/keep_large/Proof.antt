@@ -10,7 +10,7 @@ pub keep-large-spec : {M : Type 1} → statement M
 keep-large-spec =
     tie.close
     (tie.spec
-    (λ slots₀ m q kept₀ i₀ slots kept i. (length slots ≡ length slots₀) × (kept ≤ i))
-    (λ slots₀ m q kept₀ i₀ slots kept i. m - i)
+    (λ slots₀ m request kept₀ i₀ slots kept i. (length slots ≡ length slots₀) × (kept ≤ i))
+    (λ slots₀ m request kept₀ i₀ slots kept i. m - i)
     (λ c. search needs) (λ c. search needs) (λ c. search needs) (λ c. search needs) (λ c. search needs) (λ c. search needs) (λ c. search needs)
     (λ c. search needs) (λ c. search needs))

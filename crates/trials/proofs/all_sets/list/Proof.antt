@@ -10,7 +10,7 @@ pub list-spec : {M : Type 1} → statement M
 list-spec =
     tie.close
     (tie.spec
-    (λ rows k q slots₀ most m₀ mask₀ slots m mask. (length slots ≡ length slots₀) × (m ≤ mask))
-    (λ rows k q slots₀ most m₀ mask₀ slots m mask. most - mask)
+    (λ rows request slots₀ most m₀ mask₀ slots m mask. (length slots ≡ length slots₀) × (m ≤ mask))
+    (λ rows request slots₀ most m₀ mask₀ slots m mask. most - mask)
     (λ c. search needs) (λ c. search needs) (λ c. search needs) (λ c. search needs) (λ c. search needs) (λ c. search needs) (λ c. search needs)
     (λ c. search needs) (λ c. search needs) (λ c. search needs))

@@ -11,7 +11,8 @@ pub slacks-spec : {M : Type 1} → statement M
 slacks-spec =
     tie.close
     (tie.spec
-    (λ rows masks₀ slots₀ cases₀ k₀ masks slots cases k. (1 ≤ k) × (k ≤ suc mostSlack) × (length masks ≡ length masks₀) × (length slots ≡ length slots₀))
-    (λ rows masks₀ slots₀ cases₀ k₀ masks slots cases k. suc mostSlack - k)
+    (λ rows silent last masks₀ slots₀ cases₀ k₀ masks slots cases k.
+    (1 ≤ k) × (k ≤ suc mostSlack) × (length masks ≡ length masks₀) × (length slots ≡ length slots₀))
+    (λ rows silent last masks₀ slots₀ cases₀ k₀ masks slots cases k. suc mostSlack - k)
     (λ c. search needs) (λ c. search needs) (λ c. search needs) (λ c. search needs) (λ c. search needs) (λ c. search needs) (λ c. search needs)
     (λ c. search needs))
