@@ -20,7 +20,7 @@ pub struct CoreOutcome {
     pub passes: usize,
 }
 
-/// The outcome of reading a sheet. The last three are 0 with a refusal.
+/// The outcome of reading a sheet. The last four are 0 with a refusal.
 #[repr(C)]
 #[derive(Clone, Copy, Debug, PartialEq, Eq)]
 pub struct ReadOutcome {
@@ -29,6 +29,7 @@ pub struct ReadOutcome {
     pub vertices: usize,
     pub slack: usize,
     pub floor: usize,
+    pub silent: u64,
 }
 
 extern "C" {
@@ -38,10 +39,21 @@ extern "C" {
     pub fn kadvisk_reach(rows: *const u64, n: usize, v: usize) -> Outcome;
     pub fn kadvisk_first_bound(rows: *const u64, n: usize, slack: usize, s: u64, c: u64, v: usize) -> Outcome;
     pub fn kadvisk_second_bound(rows: *const u64, n: usize, slack: usize, s: u64, c: u64, v: usize) -> Outcome;
-    pub fn kadvisk_list(rows: *const u64, n: usize, slack: usize, floor: usize, slots: *mut u64, room: usize) -> Outcome;
-    pub fn kadvisk_list_with(rows: *const u64, n: usize, slack: usize, floor: usize, flags: u64, slots: *mut u64, room: usize) -> Outcome;
-    pub fn kadvisk_change(rows: *mut u64, n: usize, slack: usize, floor: usize, a: usize, b: usize, adjacent: bool, slots: *mut u64, room: usize) -> Outcome;
+    pub fn kadvisk_list(rows: *const u64, n: usize, slack: usize, floor: usize, silent: u64, slots: *mut u64, room: usize) -> Outcome;
+    pub fn kadvisk_list_with(rows: *const u64, n: usize, slack: usize, floor: usize, silent: u64, flags: u64, slots: *mut u64, room: usize) -> Outcome;
+    pub fn kadvisk_change(
+        rows: *mut u64,
+        n: usize,
+        slack: usize,
+        floor: usize,
+        silent: u64,
+        a: usize,
+        b: usize,
+        adjacent: bool,
+        slots: *mut u64,
+        room: usize,
+    ) -> Outcome;
     pub fn kadvisk_largest(rows: *const u64, n: usize, slack: usize, forced: u64) -> Outcome;
     pub fn kadvisk_read_sheet(text: *const u8, length: usize, rows: *mut u64, room: usize) -> ReadOutcome;
-    pub fn kadvisk_write_sheet(rows: *const u64, n: usize, slack: usize, floor: usize, text: *mut u8, room: usize) -> Outcome;
+    pub fn kadvisk_write_sheet(rows: *const u64, n: usize, slack: usize, floor: usize, silent: u64, text: *mut u8, room: usize) -> Outcome;
 }

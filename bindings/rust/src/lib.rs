@@ -2,7 +2,10 @@
 //!
 //! A graph is a slice of n rows, n from 1 to 64: bit b of `rows[a]` is set where a and b are adjacent. No vertex is adjacent to itself, and
 //! adjacency is mutual. A set of vertices is a `u64` in the same way, its mask. In a k-plex each member is adjacent to all members but at
-//! most k, itself counted. The slack k is 1 to 5, and the floor q, the least size that is listed, is 2k - 1 to 64.
+//! most k, itself counted. The slack k is 1 to 5, and the floor q is 2k - 1 to 64.
+//!
+//! Some vertices may be silent; their set is a mask as well, and 0 where there is none. They hold a k-plex together like any other, but do not help it
+//! over the floor: listed is a maximal k-plex of which at least q members are not silent.
 //!
 //! No call panics or has a condition that a caller must meet: what cannot be answered is refused, with a [`Refusal`]. The library below these
 //! functions is proved; the proof says for every input what is answered and what every buffer then holds.
@@ -11,8 +14,12 @@
 //! // five vertices in a ring, slack 2, floor 3
 //! let ring = [0x12, 0x05, 0x0A, 0x14, 0x09];
 //! let mut slots = [0; 8];
-//! let m = kadvisk::list(&ring, 2, 3, &mut slots)?;
+//! let m = kadvisk::list(&ring, 2, 3, 0, &mut slots)?;
 //! assert_eq!(slots[..m], [0x07, 0x0E, 0x13, 0x19, 0x1C]);
+//!
+//! // vertex 3 is silent: the sets that hold it have two other members, and that is below the floor
+//! let m = kadvisk::list(&ring, 2, 3, 0x08, &mut slots)?;
+//! assert_eq!(slots[..m], [0x07, 0x13]);
 //! # Ok::<(), kadvisk::Refusal>(())
 //! ```
 //!
@@ -38,7 +45,7 @@ pub enum Refusal {
     /// 6: there are fewer slots than maximal k-plexes to list, of which there are this many. The list makes all slots 0, and a change leaves the rows and
     /// the slots.
     Slots(usize),
-    /// 7: a set, or a single vertex, reaches n or above.
+    /// 7: a set, the silent one too, or a single vertex reaches n or above.
     Outside,
     /// 8: this line of the sheet, from 1, is the first that is not as laid out.
     Line(usize),
@@ -159,12 +166,14 @@ impl Default for Cuts {
     }
 }
 
-/// What line 1 of a sheet says.
+/// What lines 1 and 2 of a sheet say.
 #[derive(Clone, Copy, Debug, PartialEq, Eq)]
 pub struct Heading {
     pub vertices: usize,
     pub slack: usize,
     pub floor: usize,
+    /// The mask of the silent vertices.
+    pub silent: u64,
 }
 
 /// The core of a graph, for a slack and a floor.
@@ -266,70 +275,85 @@ pub fn second_bound(rows: &[u64], slack: usize, s: u64, c: u64, v: usize) -> Res
     found(unsafe { ffi::kadvisk_second_bound(rows.as_ptr(), rows.len(), slack, s, c, v) }).map(|x| x as usize)
 }
 
-/// Writes every maximal k-plex of at least `floor` members to the first slots, as masks in rising order, each once, and gives their number m. Later
-/// slots keep what they held.
+/// Writes every maximal k-plex of which at least `floor` members are not `silent` to the first slots, as masks in rising order, each once, and gives
+/// their number m. Later slots keep what they held.
 ///
-/// Refusals, in this order: 1, 2, 3, 4, 5, which leave the slots, and 6 with the exact m where there are fewer slots, which makes all slots 0. So a
-/// call with no slots counts; [`list_all`] does both.
-pub fn list(rows: &[u64], slack: usize, floor: usize, slots: &mut [u64]) -> Result<usize, Refusal> {
-    valued(unsafe { ffi::kadvisk_list(rows.as_ptr(), rows.len(), slack, floor, slots.as_mut_ptr(), slots.len()) })
+/// Refusals, in this order: 1, 2, 3, 7 where `silent` reaches n, 4, 5, which leave the slots, and 6 with the exact m where there are fewer slots, which
+/// makes all slots 0. So a call with no slots counts; [`list_all`] does both.
+pub fn list(rows: &[u64], slack: usize, floor: usize, silent: u64, slots: &mut [u64]) -> Result<usize, Refusal> {
+    valued(unsafe { ffi::kadvisk_list(rows.as_ptr(), rows.len(), slack, floor, silent, slots.as_mut_ptr(), slots.len()) })
 }
 
 /// As [`list`], with each cut of the search switched on or off.
-pub fn list_with(rows: &[u64], slack: usize, floor: usize, cuts: Cuts, slots: &mut [u64]) -> Result<usize, Refusal> {
-    valued(unsafe { ffi::kadvisk_list_with(rows.as_ptr(), rows.len(), slack, floor, cuts.flags(), slots.as_mut_ptr(), slots.len()) })
+pub fn list_with(rows: &[u64], slack: usize, floor: usize, silent: u64, cuts: Cuts, slots: &mut [u64]) -> Result<usize, Refusal> {
+    valued(unsafe { ffi::kadvisk_list_with(rows.as_ptr(), rows.len(), slack, floor, silent, cuts.flags(), slots.as_mut_ptr(), slots.len()) })
 }
 
-/// How many maximal k-plexes of at least `floor` members there are.
+/// How many maximal k-plexes there are of which at least `floor` members are not `silent`.
 ///
-/// Refusals, in this order: 1, 2, 3, 4, 5.
-pub fn count(rows: &[u64], slack: usize, floor: usize) -> Result<usize, Refusal> {
-    match list(rows, slack, floor, &mut []) {
+/// Refusals, in this order: 1, 2, 3, 7, 4, 5.
+pub fn count(rows: &[u64], slack: usize, floor: usize, silent: u64) -> Result<usize, Refusal> {
+    match list(rows, slack, floor, silent, &mut []) {
         Err(Refusal::Slots(m)) => Ok(m),
         other => other,
     }
 }
 
-/// Every maximal k-plex of at least `floor` members, as masks in rising order: counted first, and then listed.
+/// Every maximal k-plex of which at least `floor` members are not `silent`, as masks in rising order: counted first, and then listed.
 ///
-/// Refusals, in this order: 1, 2, 3, 4, 5.
-pub fn list_all(rows: &[u64], slack: usize, floor: usize) -> Result<Vec<u64>, Refusal> {
-    let mut slots = vec![0; count(rows, slack, floor)?];
-    list(rows, slack, floor, &mut slots)?;
+/// Refusals, in this order: 1, 2, 3, 7, 4, 5.
+///
+/// ```
+/// // two triangles that share vertex 2, which is silent: it holds both together, and at floor 2 both are listed
+/// let rows = [0x06, 0x05, 0x1B, 0x14, 0x0C];
+/// assert_eq!(kadvisk::list_all(&rows, 1, 2, 0x04)?, [0x07, 0x1C]);
+/// assert_eq!(kadvisk::list_all(&rows, 1, 3, 0x04)?, []);
+/// # Ok::<(), kadvisk::Refusal>(())
+/// ```
+pub fn list_all(rows: &[u64], slack: usize, floor: usize, silent: u64) -> Result<Vec<u64>, Refusal> {
+    let mut slots = vec![0; count(rows, slack, floor, silent)?];
+    list(rows, slack, floor, silent, &mut slots)?;
     Ok(slots)
 }
 
-/// Makes `a` and `b` adjacent, or not adjacent, as `adjacent` says, in the rows of a book: a graph, a slack, a floor and their list, which [`list`]
-/// opens. The first slots then hold the list of the changed graph, made afresh, whatever they held, and its number m is given. Other rows and later
-/// slots keep what they held. A [`Book`] has all this in one object.
+/// Makes `a` and `b` adjacent, or not adjacent, as `adjacent` says, in the rows of a book: a graph, a slack, a floor, silent vertices and their list,
+/// which [`list`] opens. The first slots then hold the list of the changed graph, made afresh, whatever they held, and its number m is given. Other rows
+/// and later slots keep what they held. A [`Book`] has all this in one object.
 ///
-/// Refusals, in this order: 1, 2, 3, 4, 5 of the book, 7 where `a` or `b` is n or above, 12, 13, and 6 with the exact new m where there are fewer
-/// slots. Each leaves the rows and the slots as they were, 6 too.
+/// Refusals, in this order: 1, 2, 3, 7 where `silent` reaches n, 4, 5 of the book, 7 where `a` or `b` is n or above, 12, 13, and 6 with the exact new m
+/// where there are fewer slots. Each leaves the rows and the slots as they were, 6 too.
 ///
 /// ```
 /// let mut rows = [0x12, 0x05, 0x0A, 0x14, 0x09];
 /// let mut slots = [0; 8];
-/// kadvisk::list(&rows, 2, 3, &mut slots)?;
-/// let m = kadvisk::change(&mut rows, 2, 3, 0, 2, true, &mut slots)?;
+/// kadvisk::list(&rows, 2, 3, 0, &mut slots)?;
+/// let m = kadvisk::change(&mut rows, 2, 3, 0, 0, 2, true, &mut slots)?;
 /// assert_eq!(rows, [0x16, 0x05, 0x0B, 0x14, 0x09]);
 /// assert_eq!(slots[..m], [0x07, 0x0E, 0x13, 0x1D]);
-/// assert_eq!(kadvisk::change(&mut rows, 2, 3, 0, 2, true, &mut slots), Err(kadvisk::Refusal::Unchanged));
+/// assert_eq!(kadvisk::change(&mut rows, 2, 3, 0, 0, 2, true, &mut slots), Err(kadvisk::Refusal::Unchanged));
 /// # Ok::<(), kadvisk::Refusal>(())
 /// ```
-pub fn change(rows: &mut [u64], slack: usize, floor: usize, a: usize, b: usize, adjacent: bool, slots: &mut [u64]) -> Result<usize, Refusal> {
-    valued(unsafe { ffi::kadvisk_change(rows.as_mut_ptr(), rows.len(), slack, floor, a, b, adjacent, slots.as_mut_ptr(), slots.len()) })
+#[allow(clippy::too_many_arguments)] // as in C
+pub fn change(rows: &mut [u64], slack: usize, floor: usize, silent: u64, a: usize, b: usize, adjacent: bool, slots: &mut [u64]) -> Result<usize, Refusal> {
+    valued(unsafe { ffi::kadvisk_change(rows.as_mut_ptr(), rows.len(), slack, floor, silent, a, b, adjacent, slots.as_mut_ptr(), slots.len()) })
 }
 
-/// A graph, a slack, a floor and their list, in the caller's rows and slots: the list is kept through changes of the edges.
+/// A graph, a slack, a floor, silent vertices and their list, in the caller's rows and slots: the list is kept through changes of the edges.
 ///
 /// ```
 /// // five vertices in a ring, slack 2, floor 3; then 0 and 2 are made adjacent
 /// let mut rows = [0x12, 0x05, 0x0A, 0x14, 0x09];
 /// let mut slots = [0; 8];
-/// let mut book = kadvisk::Book::open(&mut rows, 2, 3, &mut slots)?;
+/// let mut book = kadvisk::Book::open(&mut rows, 2, 3, 0, &mut slots)?;
 /// assert_eq!(book.list(), [0x07, 0x0E, 0x13, 0x19, 0x1C]);
 /// book.change(0, 2, true)?;
 /// assert_eq!(book.list(), [0x07, 0x0E, 0x13, 0x1D]);
+///
+/// // vertex 3 is silent
+/// let mut book = kadvisk::Book::open(&mut rows, 2, 3, 0x08, &mut slots)?;
+/// assert_eq!(book.list(), [0x07, 0x13, 0x1D]);
+/// book.change(0, 2, false)?;
+/// assert_eq!(book.list(), [0x07, 0x13]);
 /// # Ok::<(), kadvisk::Refusal>(())
 /// ```
 #[derive(Debug)]
@@ -337,6 +361,7 @@ pub struct Book<'a> {
     rows: &'a mut [u64],
     slack: usize,
     floor: usize,
+    silent: u64,
     slots: &'a mut [u64],
     listed: usize,
 }
@@ -344,10 +369,10 @@ pub struct Book<'a> {
 impl<'a> Book<'a> {
     /// Opens a book: the first slots become the list of the graph, as [`list`] makes it.
     ///
-    /// Refusals, in this order: 1, 2, 3, 4, 5, which leave the slots, and 6, which makes all slots 0.
-    pub fn open(rows: &'a mut [u64], slack: usize, floor: usize, slots: &'a mut [u64]) -> Result<Book<'a>, Refusal> {
-        let listed = list(rows, slack, floor, slots)?;
-        Ok(Book { rows, slack, floor, slots, listed })
+    /// Refusals, in this order: 1, 2, 3, 7, 4, 5, which leave the slots, and 6, which makes all slots 0.
+    pub fn open(rows: &'a mut [u64], slack: usize, floor: usize, silent: u64, slots: &'a mut [u64]) -> Result<Book<'a>, Refusal> {
+        let listed = list(rows, slack, floor, silent, slots)?;
+        Ok(Book { rows, slack, floor, silent, slots, listed })
     }
 
     /// Makes `a` and `b` adjacent, or not adjacent, as `adjacent` says, and gives the number of masks in the new list.
@@ -357,7 +382,7 @@ impl<'a> Book<'a> {
     /// ```
     /// # let mut rows = [0x12, 0x05, 0x0A, 0x14, 0x09];
     /// # let mut slots = [0; 8];
-    /// let mut book = kadvisk::Book::open(&mut rows, 2, 3, &mut slots)?;
+    /// let mut book = kadvisk::Book::open(&mut rows, 2, 3, 0, &mut slots)?;
     /// assert_eq!(book.change(0, 1, true), Err(kadvisk::Refusal::Unchanged));
     /// assert_eq!(book.change(0, 2, true), Ok(4));
     /// assert_eq!(book.change(0, 2, false), Ok(5));
@@ -365,11 +390,11 @@ impl<'a> Book<'a> {
     /// # Ok::<(), kadvisk::Refusal>(())
     /// ```
     pub fn change(&mut self, a: usize, b: usize, adjacent: bool) -> Result<usize, Refusal> {
-        self.listed = change(self.rows, self.slack, self.floor, a, b, adjacent, self.slots)?;
+        self.listed = change(self.rows, self.slack, self.floor, self.silent, a, b, adjacent, self.slots)?;
         Ok(self.listed)
     }
 
-    /// The list: every maximal k-plex of at least the floor's members, as masks in rising order.
+    /// The list: every maximal k-plex of which at least the floor's members are not silent, as masks in rising order.
     pub fn list(&self) -> &[u64] {
         &self.slots[..self.listed]
     }
@@ -399,16 +424,28 @@ pub fn largest(rows: &[u64], slack: usize, forced: u64) -> Result<Largest, Refus
 
 /// Reads the sheet in `text`: n rows are stored in the first of `rows`, and later ones keep their contents.
 ///
-/// Refusals, in this order: 8 at line 1, 1, 2, 3, 8 at another line, 4, 5, 9. Each leaves every row as it was.
+/// Refusals, in this order: 8 at line 1, 1, 2, 3, 8 at another line, 7 where the silent vertices reach n, 4, 5, 9. Each leaves every row as it was. A sheet
+/// of the time before line 2, which has the silent vertices, is 8 at line n + 2.
+///
+/// ```
+/// let mut rows = [0; 64];
+/// let sheet = b"020102\n0000000000000001\n0000000000000002\n0000000000000001\n";
+/// let heading = kadvisk::read_sheet(sheet, &mut rows)?;
+/// assert_eq!((heading.vertices, heading.slack, heading.floor, heading.silent), (2, 1, 2, 0x01));
+/// assert_eq!(rows[..2], [0x02, 0x01]);
+/// let old = b"020102\n0000000000000002\n0000000000000001\n";
+/// assert_eq!(kadvisk::read_sheet(old, &mut rows), Err(kadvisk::Refusal::Line(4)));
+/// # Ok::<(), kadvisk::Refusal>(())
+/// ```
 pub fn read_sheet(text: &[u8], rows: &mut [u64]) -> Result<Heading, Refusal> {
     let read = unsafe { ffi::kadvisk_read_sheet(text.as_ptr(), text.len(), rows.as_mut_ptr(), rows.len()) };
     answered(read.number, read.value)?;
-    Ok(Heading { vertices: read.vertices, slack: read.slack, floor: read.floor })
+    Ok(Heading { vertices: read.vertices, slack: read.slack, floor: read.floor, silent: read.silent })
 }
 
-/// Writes the sheet of the graph and the request to the front of `text` and gives its length, 7 + 17n. Later bytes keep theirs.
+/// Writes the sheet of the graph and the request to the front of `text` and gives its length, 24 + 17n. Later bytes keep theirs.
 ///
-/// Refusals, in this order: 1, 2, 3, 4, 5, 9. Each leaves the whole text as it was.
-pub fn write_sheet(rows: &[u64], slack: usize, floor: usize, text: &mut [u8]) -> Result<usize, Refusal> {
-    valued(unsafe { ffi::kadvisk_write_sheet(rows.as_ptr(), rows.len(), slack, floor, text.as_mut_ptr(), text.len()) })
+/// Refusals, in this order: 1, 2, 3, 7 where `silent` reaches n, 4, 5, 9. Each leaves the whole text as it was.
+pub fn write_sheet(rows: &[u64], slack: usize, floor: usize, silent: u64, text: &mut [u8]) -> Result<usize, Refusal> {
+    valued(unsafe { ffi::kadvisk_write_sheet(rows.as_ptr(), rows.len(), slack, floor, silent, text.as_mut_ptr(), text.len()) })
 }

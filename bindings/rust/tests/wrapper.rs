@@ -31,15 +31,15 @@ fn questions() {
 #[test]
 fn lists() {
     let mut slots = [9; 7];
-    assert_eq!(kadvisk::list(&RING, 2, 3, &mut slots), Ok(5));
+    assert_eq!(kadvisk::list(&RING, 2, 3, 0, &mut slots), Ok(5));
     assert_eq!(slots, [0x07, 0x0E, 0x13, 0x19, 0x1C, 9, 9]);
-    assert_eq!(kadvisk::count(&RING, 2, 3), Ok(5));
-    assert_eq!(kadvisk::count(&RING, 2, 6), Ok(0));
-    assert_eq!(kadvisk::list_all(&RING, 2, 3), Ok(LIST.to_vec()));
+    assert_eq!(kadvisk::count(&RING, 2, 3, 0), Ok(5));
+    assert_eq!(kadvisk::count(&RING, 2, 6, 0), Ok(0));
+    assert_eq!(kadvisk::list_all(&RING, 2, 3, 0), Ok(LIST.to_vec()));
     let off = Cuts { core: false, reach: false, pairs: false, second: false, parted: false, extension: false, pivot: false };
-    assert_eq!(kadvisk::list_with(&RING, 2, 3, off, &mut slots), Ok(5));
+    assert_eq!(kadvisk::list_with(&RING, 2, 3, 0, off, &mut slots), Ok(5));
     assert_eq!(slots[..5], LIST);
-    assert_eq!(kadvisk::list_with(&RING, 2, 3, Cuts::default(), &mut slots[..4]), Err(Refusal::Slots(5)));
+    assert_eq!(kadvisk::list_with(&RING, 2, 3, 0, Cuts::default(), &mut slots[..4]), Err(Refusal::Slots(5)));
     assert_eq!(
         (off.flags(), Cuts::default().flags(), Cuts { second: true, ..off }.flags(), Cuts { pivot: true, ..off }.flags()),
         (0, 1 + 2 + 4 + 16 + 32 + 64, 8, 64)
@@ -48,21 +48,44 @@ fn lists() {
 }
 
 #[test]
+fn silent_vertices() {
+    let (mut rows, mut slots) = (RING, [9; 5]);
+    assert_eq!(kadvisk::list(&RING, 2, 3, 0x08, &mut slots), Ok(2));
+    assert_eq!(slots, [0x07, 0x13, 9, 9, 9]);
+    assert_eq!(kadvisk::count(&RING, 2, 3, 0x01), Ok(2));
+    assert_eq!(kadvisk::list_all(&RING, 2, 3, 0x1C), Ok(vec![]));
+    assert_eq!(kadvisk::list_with(&RING, 2, 3, 0x02, Cuts::default(), &mut slots), Ok(2));
+    assert_eq!(slots, [0x19, 0x1C, 9, 9, 9]);
+    assert_eq!(kadvisk::list_with(&RING, 2, 3, 0x20, Cuts::default(), &mut slots), Err(Refusal::Outside));
+    assert_eq!(kadvisk::change(&mut rows, 2, 3, 0x20, 9, 9, true, &mut slots), Err(Refusal::Outside));
+    assert_eq!(kadvisk::write_sheet(&RING, 2, 3, 0x20, &mut []), Err(Refusal::Outside));
+    assert_eq!(Book::open(&mut rows, 2, 3, 0x20, &mut slots).err(), Some(Refusal::Outside));
+    assert_eq!((rows, slots), (RING, [0x19, 0x1C, 9, 9, 9]));
+    // a book keeps its silent vertices
+    let mut book = Book::open(&mut rows, 2, 3, 0x08, &mut slots).unwrap();
+    assert_eq!(book.list(), [0x07, 0x13]);
+    assert_eq!(book.change(0, 2, true), Ok(3));
+    assert_eq!((book.rows(), book.list()), (&CHORD[..], &[0x07, 0x13, 0x1D][..]));
+    assert_eq!(book.change(0, 2, false), Ok(2));
+    assert_eq!((rows, slots), (RING, [0x07, 0x13, 0x1D, 9, 9]));
+}
+
+#[test]
 fn changes() {
     let (mut rows, mut slots) = (RING, [9; 6]);
-    assert_eq!(kadvisk::change(&mut rows, 2, 3, 2, 0, true, &mut slots), Ok(4));
+    assert_eq!(kadvisk::change(&mut rows, 2, 3, 0, 2, 0, true, &mut slots), Ok(4));
     assert_eq!((rows, slots), (CHORD, [0x07, 0x0E, 0x13, 0x1D, 9, 9]));
-    assert_eq!(kadvisk::change(&mut rows, 2, 3, 0, 2, true, &mut slots), Err(Refusal::Unchanged));
-    assert_eq!(kadvisk::change(&mut rows, 2, 3, 0, 2, false, &mut slots[..4]), Err(Refusal::Slots(5)));
+    assert_eq!(kadvisk::change(&mut rows, 2, 3, 0, 0, 2, true, &mut slots), Err(Refusal::Unchanged));
+    assert_eq!(kadvisk::change(&mut rows, 2, 3, 0, 0, 2, false, &mut slots[..4]), Err(Refusal::Slots(5)));
     assert_eq!((rows, slots), (CHORD, [0x07, 0x0E, 0x13, 0x1D, 9, 9]));
-    assert_eq!(kadvisk::change(&mut rows, 2, 3, 0, 2, false, &mut slots), Ok(5));
+    assert_eq!(kadvisk::change(&mut rows, 2, 3, 0, 0, 2, false, &mut slots), Ok(5));
     assert_eq!((rows, slots), (RING, [0x07, 0x0E, 0x13, 0x19, 0x1C, 9]));
 }
 
 #[test]
 fn books() {
     let (mut rows, mut slots) = (RING, [9; 5]);
-    let mut book = Book::open(&mut rows, 2, 3, &mut slots).unwrap();
+    let mut book = Book::open(&mut rows, 2, 3, 0, &mut slots).unwrap();
     assert_eq!((book.rows(), book.list()), (&RING[..], &LIST[..]));
     assert_eq!(book.change(0, 2, true), Ok(4));
     assert_eq!((book.rows(), book.list()), (&CHORD[..], &CHORD_LIST[..]));
@@ -80,13 +103,13 @@ fn books() {
 #[test]
 fn a_book_with_too_few_slots() {
     let (mut rows, mut slots) = (CHORD, [9; 4]);
-    let mut book = Book::open(&mut rows, 2, 3, &mut slots).unwrap();
+    let mut book = Book::open(&mut rows, 2, 3, 0, &mut slots).unwrap();
     assert_eq!(book.change(0, 2, false), Err(Refusal::Slots(5)));
     assert_eq!((book.rows(), book.list()), (&CHORD[..], &CHORD_LIST[..]));
-    assert_eq!(Book::open(&mut rows, 2, 3, &mut slots[..3]).err(), Some(Refusal::Slots(4)));
+    assert_eq!(Book::open(&mut rows, 2, 3, 0, &mut slots[..3]).err(), Some(Refusal::Slots(4)));
     assert_eq!((rows, slots), (CHORD, [0, 0, 0, 0x1D]));
     rows[1] |= 1 << 1;
-    assert_eq!(Book::open(&mut rows, 2, 3, &mut slots).err(), Some(Refusal::Row(1)));
+    assert_eq!(Book::open(&mut rows, 2, 3, 0, &mut slots).err(), Some(Refusal::Row(1)));
     assert_eq!(slots, [0, 0, 0, 0x1D]);
 }
 
@@ -102,12 +125,12 @@ fn largest() {
 
 #[test]
 fn sheets() {
-    let mut text = [b'.'; 100];
-    assert_eq!(kadvisk::write_sheet(&RING, 2, 3, &mut text), Ok(92));
-    assert_eq!(&text[..24], b"050203\n0000000000000012\n");
-    assert_eq!(text[92..], [b'.'; 8]);
+    let mut text = [b'.'; 117];
+    assert_eq!(kadvisk::write_sheet(&RING, 2, 3, 0x10, &mut text), Ok(109));
+    assert_eq!(&text[..41], b"050203\n0000000000000010\n0000000000000012\n");
+    assert_eq!(text[109..], [b'.'; 8]);
     let mut rows = [7; 6];
-    assert_eq!(kadvisk::read_sheet(&text[..92], &mut rows), Ok(Heading { vertices: 5, slack: 2, floor: 3 }));
+    assert_eq!(kadvisk::read_sheet(&text[..109], &mut rows), Ok(Heading { vertices: 5, slack: 2, floor: 3, silent: 0x10 }));
     assert_eq!(rows, [0x12, 0x05, 0x0A, 0x14, 0x09, 7]);
 }
 
@@ -115,19 +138,20 @@ fn sheets() {
 fn refusals() {
     let mut text = [0; 8];
     for (answer, refusal) in [
-        (kadvisk::count(&[], 1, 1), Refusal::Vertices),
-        (kadvisk::count(&RING, 0, 1), Refusal::Slack),
-        (kadvisk::count(&RING, 2, 2), Refusal::Floor),
-        (kadvisk::count(&[0, 0, 4], 1, 1), Refusal::Row(2)),
-        (kadvisk::count(&[0, 1, 0], 1, 1), Refusal::OneWay(1)),
-        (kadvisk::list(&RING, 2, 3, &mut []), Refusal::Slots(5)),
+        (kadvisk::count(&[], 1, 1, 0), Refusal::Vertices),
+        (kadvisk::count(&RING, 0, 1, 0), Refusal::Slack),
+        (kadvisk::count(&RING, 2, 2, 0), Refusal::Floor),
+        (kadvisk::count(&[0, 0, 4], 1, 1, 0), Refusal::Row(2)),
+        (kadvisk::count(&[0, 1, 0], 1, 1, 0), Refusal::OneWay(1)),
+        (kadvisk::list(&RING, 2, 3, 0, &mut []), Refusal::Slots(5)),
         (kadvisk::reach(&RING, 5).map(|_| 0), Refusal::Outside),
+        (kadvisk::count(&RING, 2, 3, 1 << 63), Refusal::Outside),
         (kadvisk::read_sheet(b"050203\n", &mut []).map(|_| 0), Refusal::Line(2)),
-        (kadvisk::write_sheet(&RING, 2, 3, &mut text), Refusal::Room(92)),
+        (kadvisk::write_sheet(&RING, 2, 3, 0x10, &mut text), Refusal::Room(109)),
         (kadvisk::first_bound(&RING, 2, 1, 1, 0), Refusal::Bound),
         (kadvisk::largest(&RING, 1, 0x05).map(|_| 0), Refusal::Forced),
-        (kadvisk::change(&mut RING.clone(), 2, 3, 0, 0, true, &mut []), Refusal::Loop),
-        (kadvisk::change(&mut RING.clone(), 2, 3, 0, 1, true, &mut []), Refusal::Unchanged),
+        (kadvisk::change(&mut RING.clone(), 2, 3, 0, 0, 0, true, &mut []), Refusal::Loop),
+        (kadvisk::change(&mut RING.clone(), 2, 3, 0, 0, 1, true, &mut []), Refusal::Unchanged),
     ] {
         assert_eq!(answer, Err(refusal));
         assert_eq!(Refusal::new(refusal.number(), refusal.value()), Some(refusal));
