@@ -49,7 +49,7 @@ fn masks(at: usize, limit: Duration) -> Option<usize> {
         return count_apart(at, 0, limit);
     }
     let Row { graph, k, q, .. } = row(at);
-    Some(kadvisk::count(&graph(), *k, *q).expect("a valid graph"))
+    Some(kadvisk::count(&graph(), *k, *q, 0).expect("a valid graph"))
 }
 
 /// A row's graph and the changes that are timed: of an edge and of a pair that is none, each with the change back, so that the graph is the same in the end.
@@ -93,12 +93,12 @@ impl Case {
 
     /// Lists each of these graphs afresh. How many masks there are in all.
     fn list(&self, graphs: &[Vec<u64>], slots: &mut [u64]) -> usize {
-        graphs.iter().map(|rows| kadvisk::list(rows, self.row.k, self.row.q, slots).expect("enough slots")).sum()
+        graphs.iter().map(|rows| kadvisk::list(rows, self.row.k, self.row.q, 0, slots).expect("enough slots")).sum()
     }
 
     /// Makes the changes. How many masks there are in all.
     fn change(&self, rows: &mut [u64], slots: &mut [u64]) -> usize {
-        let change = |&Change { a, b, adjacent }: &Change| kadvisk::change(rows, self.row.k, self.row.q, a, b, adjacent, slots);
+        let change = |&Change { a, b, adjacent }: &Change| kadvisk::change(rows, self.row.k, self.row.q, 0, a, b, adjacent, slots);
         self.changes.iter().map(change).map(|m| m.expect("a change, and enough slots")).sum()
     }
 
@@ -106,7 +106,7 @@ impl Case {
     /// many slots.
     fn times(&self) -> (usize, f64, f64) {
         let graphs = self.graphs();
-        let most = graphs.iter().map(|rows| kadvisk::count(rows, self.row.k, self.row.q).expect("a valid graph")).max().unwrap_or(0);
+        let most = graphs.iter().map(|rows| kadvisk::count(rows, self.row.k, self.row.q, 0).expect("a valid graph")).max().unwrap_or(0);
         let (rows, slots) = (RefCell::new(self.rows.clone()), RefCell::new(vec![0; most + 3]));
         let changing = || self.change(&mut rows.borrow_mut(), &mut slots.borrow_mut());
         let listing = || self.list(&graphs, &mut slots.borrow_mut());

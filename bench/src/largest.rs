@@ -63,7 +63,7 @@ impl Way {
         match self {
             Library => kadvisk::largest(rows, case.k, case.forced).map(|found| (found.size, found.mask)).expect("a forced k-plex"),
             Plain => outside::largest::plain(rows, case.k, case.forced),
-            Counting => (kadvisk::count(rows, case.k, size).expect("a valid graph"), 0),
+            Counting => (kadvisk::count(rows, case.k, size, 0).expect("a valid graph"), 0),
         }
     }
 

@@ -1,11 +1,11 @@
 //! Times the library on graphs of our own making: with each cut switched, against independent implementations, what placing costs, how the time
-//! grows, the largest k-plex, changes of a book, the core alone, and the bounds alone.
+//! grows, the largest k-plex, changes of a book, silent vertices, the core alone, and the bounds alone.
 //! Prints tables in Markdown. One command:
 //!
 //!   cargo run --release --offline --package bench
 //!
-//!   bench --part NAME     cuts, placing, growth, largest, changes, cores or bounds alone, or wide: many instances of other kinds
-//!   bench --only NAME     the rows of one graph in the tables of cuts, of the largest k-plex and of changes
+//!   bench --part NAME     cuts, placing, growth, largest, changes, silent, cores or bounds alone, or wide: many instances of other kinds
+//!   bench --only NAME     the rows of one graph in the tables of cuts, of the largest k-plex, of changes and of silent vertices
 //!   bench --rivals        the table of cuts with the independent implementations alone
 //!   bench --limit S       leave a run that takes more than S seconds (3)
 mod bounds;
@@ -14,6 +14,7 @@ mod clock;
 mod cores;
 mod largest;
 mod rows;
+mod silent;
 mod variants;
 mod wide;
 
@@ -175,7 +176,7 @@ fn placing() {
         ("random 0.9", instances::random(64, 0.9, 1), 1, 11),
     ];
     for (name, rows, k, q) in cases {
-        let count = || kadvisk::count(&rows, k, q).expect("a valid graph");
+        let count = || kadvisk::count(&rows, k, q, 0).expect("a valid graph");
         let m = count();
         // the program's 4,096 slots, and enough of them
         for room in [4096, m] {
@@ -183,7 +184,7 @@ fn placing() {
                 continue;
             }
             let mut slots = vec![0; room];
-            let (counting, listing, ratio) = against(count, || kadvisk::list(&rows, k, q, &mut slots).is_ok() as usize);
+            let (counting, listing, ratio) = against(count, || kadvisk::list(&rows, k, q, 0, &mut slots).is_ok() as usize);
             println!("| {name} | {k} | {q} | {m} | {room} | {counting:.2} | {listing:.2} | {ratio:.2} |");
         }
     }
@@ -197,7 +198,7 @@ fn growth() {
         print!("| random {p} | {k} | {q} |");
         for n in (16..=64).step_by(8) {
             let rows = instances::random(n, p, 1);
-            let (m, time) = measure(|| kadvisk::count(&rows, k, q).expect("a valid graph"));
+            let (m, time) = measure(|| kadvisk::count(&rows, k, q, 0).expect("a valid graph"));
             print!(" {time:.3} ms, m = {m} |");
         }
         println!();
@@ -230,6 +231,10 @@ fn main() {
         changes::one(row.parse().expect("a row"));
         return;
     }
+    if arguments.first().is_some_and(|first| first.starts_with("--silent")) {
+        silent::one(&arguments);
+        return;
+    }
     let limit = Duration::from_secs(after("--limit").map_or(3, |s| s.parse().expect("seconds")));
     let part = |name| after("--part").is_none_or(|part| part == name);
     if part("cuts") {
@@ -246,6 +251,9 @@ fn main() {
     }
     if part("changes") {
         changes::all(after("--only"), limit);
+    }
+    if part("silent") {
+        silent::all(after("--only"), limit);
     }
     if part("cores") && after("--only").is_none() {
         cores::all();

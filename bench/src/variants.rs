@@ -71,7 +71,7 @@ impl Variant {
                 cliques::run(rows, q, &mut |_| found += 1);
                 found
             }
-            _ => match kadvisk::list_with(rows, k, q, self.cuts(), &mut []) {
+            _ => match kadvisk::list_with(rows, k, q, 0, self.cuts(), &mut []) {
                 Ok(m) | Err(Refusal::Slots(m)) => m,
                 Err(refusal) => panic!("{refusal}"),
             },

@@ -54,7 +54,7 @@ fn graphs() -> Vec<(String, Vec<u64>)> {
 }
 
 fn ours(rows: &[u64], k: usize, q: usize) -> usize {
-    kadvisk::count(rows, k, q).expect("a valid graph")
+    kadvisk::count(rows, k, q, 0).expect("a valid graph")
 }
 
 fn published(rows: &[u64], k: usize, q: usize) -> usize {

@@ -3,12 +3,13 @@ use crate::calls::{self, refused, success};
 use crate::{cliques, fp, plain, refusals};
 use kadvisk::ffi::Outcome;
 
-/// A graph, a slack, a floor and slots for their list.
+/// A graph, a slack, a floor, silent vertices and slots for their list.
 #[derive(Clone, Debug, PartialEq, Eq)]
 pub struct Book {
     pub rows: Vec<u64>,
     pub slack: usize,
     pub floor: usize,
+    pub silent: u64,
     pub slots: Vec<u64>,
 }
 
@@ -20,13 +21,17 @@ pub struct Change {
     pub adjacent: bool,
 }
 
-/// The list by an independent implementation for up to 64 vertices, rising.
-pub fn list(rows: &[u64], k: usize, q: usize) -> Vec<u64> {
-    if k > 1 {
-        return fp::list(rows, k, q);
-    }
+/// The list by an independent implementation for up to 64 vertices, rising: all maximal k-plexes of q or more members, and of them those in which so many
+/// are not silent.
+pub fn list(rows: &[u64], k: usize, q: usize, silent: u64) -> Vec<u64> {
     let mut found = vec![];
-    cliques::run(rows, q, &mut |t| found.push(t));
+    let mut out = |t| found.push(t);
+    if k == 1 {
+        cliques::run(rows, q, &mut out);
+    } else {
+        fp::run(rows, k, q, &mut out);
+    }
+    found.retain(|&t| plain::recorded(t, silent) >= q);
     found.sort_unstable();
     found
 }
@@ -53,17 +58,17 @@ impl Change {
 impl Book {
     /// Changes the book by the exported call.
     pub fn change(&mut self, Change { a, b, adjacent }: Change) -> Outcome {
-        calls::change(&mut self.rows, self.slack, self.floor, a, b, adjacent, &mut self.slots)
+        calls::change(&mut self.rows, self.slack, self.floor, self.silent, a, b, adjacent, &mut self.slots)
     }
 
     /// The outcome that a change owes, and the book after it. The list of the changed graph is asked for where nothing but the slots can be refused.
-    pub fn owed(&self, change: Change, list: impl FnOnce(&[u64], usize, usize) -> Vec<u64>) -> (Outcome, Book) {
+    pub fn owed(&self, change: Change, list: impl FnOnce(&[u64], usize, usize, u64) -> Vec<u64>) -> (Outcome, Book) {
         let Change { a, b, adjacent } = change;
-        if let Some(refusal) = refusals::change(&self.rows, self.slack, self.floor, a, b, adjacent) {
+        if let Some(refusal) = refusals::change(&self.rows, self.slack, self.floor, self.silent, a, b, adjacent) {
             return (refused(refusal), self.clone());
         }
         let rows = change.graph(&self.rows);
-        let mut slots = list(&rows, self.slack, self.floor);
+        let mut slots = list(&rows, self.slack, self.floor, self.silent);
         let m = slots.len();
         if self.slots.len() < m {
             return (refused((6, m)), self.clone());

@@ -1,8 +1,8 @@
 //! The list by trying all sets. Maximality is judged by its definition: no other k-plex contains the set, whatever its size.
-use crate::plain::{is_plex, members};
+use crate::plain::{is_plex, recorded};
 
-/// Every maximal k-plex of at least q members, rising.
-pub fn list(rows: &[u64], k: usize, q: usize) -> Vec<u64> {
+/// Every maximal k-plex of which at least q members are not silent, rising.
+pub fn list(rows: &[u64], k: usize, q: usize, silent: u64) -> Vec<u64> {
     let n = rows.len();
     assert!(n <= 16, "trying all sets is for 16 vertices at most");
     let all = 1usize << n;
@@ -15,5 +15,5 @@ pub fn list(rows: &[u64], k: usize, q: usize) -> Vec<u64> {
         within[s] |= larger;
         maximal[s] &= !larger;
     }
-    (0..all as u64).filter(|&s| maximal[s as usize] && members(s).len() >= q).collect()
+    (0..all as u64).filter(|&s| maximal[s as usize] && recorded(s, silent) >= q).collect()
 }

@@ -25,16 +25,17 @@ pub fn second_bound(rows: &[u64], k: usize, s: u64, c: u64, v: usize) -> Outcome
     unsafe { ffi::kadvisk_second_bound(rows.as_ptr(), rows.len(), k, s, c, v) }
 }
 
-pub fn list(rows: &[u64], k: usize, q: usize, slots: &mut [u64]) -> Outcome {
-    unsafe { ffi::kadvisk_list(rows.as_ptr(), rows.len(), k, q, slots.as_mut_ptr(), slots.len()) }
+pub fn list(rows: &[u64], k: usize, q: usize, silent: u64, slots: &mut [u64]) -> Outcome {
+    unsafe { ffi::kadvisk_list(rows.as_ptr(), rows.len(), k, q, silent, slots.as_mut_ptr(), slots.len()) }
 }
 
-pub fn list_with(rows: &[u64], k: usize, q: usize, flags: u64, slots: &mut [u64]) -> Outcome {
-    unsafe { ffi::kadvisk_list_with(rows.as_ptr(), rows.len(), k, q, flags, slots.as_mut_ptr(), slots.len()) }
+pub fn list_with(rows: &[u64], k: usize, q: usize, silent: u64, flags: u64, slots: &mut [u64]) -> Outcome {
+    unsafe { ffi::kadvisk_list_with(rows.as_ptr(), rows.len(), k, q, silent, flags, slots.as_mut_ptr(), slots.len()) }
 }
 
-pub fn change(rows: &mut [u64], k: usize, q: usize, a: usize, b: usize, adjacent: bool, slots: &mut [u64]) -> Outcome {
-    unsafe { ffi::kadvisk_change(rows.as_mut_ptr(), rows.len(), k, q, a, b, adjacent, slots.as_mut_ptr(), slots.len()) }
+#[allow(clippy::too_many_arguments)] // as in C
+pub fn change(rows: &mut [u64], k: usize, q: usize, silent: u64, a: usize, b: usize, adjacent: bool, slots: &mut [u64]) -> Outcome {
+    unsafe { ffi::kadvisk_change(rows.as_mut_ptr(), rows.len(), k, q, silent, a, b, adjacent, slots.as_mut_ptr(), slots.len()) }
 }
 
 pub fn largest(rows: &[u64], k: usize, forced: u64) -> Outcome {
@@ -45,8 +46,8 @@ pub fn read_sheet(text: &[u8], rows: &mut [u64]) -> ReadOutcome {
     unsafe { ffi::kadvisk_read_sheet(text.as_ptr(), text.len(), rows.as_mut_ptr(), rows.len()) }
 }
 
-pub fn write_sheet(rows: &[u64], k: usize, q: usize, text: &mut [u8]) -> Outcome {
-    unsafe { ffi::kadvisk_write_sheet(rows.as_ptr(), rows.len(), k, q, text.as_mut_ptr(), text.len()) }
+pub fn write_sheet(rows: &[u64], k: usize, q: usize, silent: u64, text: &mut [u8]) -> Outcome {
+    unsafe { ffi::kadvisk_write_sheet(rows.as_ptr(), rows.len(), k, q, silent, text.as_mut_ptr(), text.len()) }
 }
 
 /// The outcome of a success.
@@ -71,5 +72,10 @@ pub fn refused((number, value): (usize, usize)) -> Outcome {
 
 /// The outcome of a refusal to read.
 pub fn unread((number, value): (usize, usize)) -> ReadOutcome {
-    ReadOutcome { number, value, vertices: 0, slack: 0, floor: 0 }
+    ReadOutcome { number, value, vertices: 0, slack: 0, floor: 0, silent: 0 }
+}
+
+/// The outcome of a sheet that is read.
+pub fn read(vertices: usize, slack: usize, floor: usize, silent: u64) -> ReadOutcome {
+    ReadOutcome { number: 0, value: 0, vertices, slack, floor, silent }
 }

@@ -1,5 +1,6 @@
 //! Inputs that several tests share.
 use crate::instances::{self, Rng};
+use crate::plain::full;
 use crate::refusals::MOST_SLACK;
 
 /// How many cases a test tries: `n`, and 25 times as many in the longer mode (KADVISK_LONG in the environment).
@@ -40,6 +41,15 @@ pub fn graph(rng: &mut Rng, low: usize, high: usize) -> Vec<u64> {
 pub fn subset(rng: &mut Rng, n: usize) -> u64 {
     let p = rng.unit();
     (0..n).filter(|_| rng.chance(p)).map(|v| 1u64 << v).sum()
+}
+
+/// Silent vertices below n: none, all, or some, more often few than many.
+pub fn silent(rng: &mut Rng, n: usize) -> u64 {
+    match rng.below(8) {
+        0 => 0,
+        1 => full(n),
+        _ => subset(rng, n) & subset(rng, n),
+    }
 }
 
 /// A k-plex, grown by random vertices while it stays one and a throw allows.

@@ -11,6 +11,7 @@
 //!   words      sets in a word, for the fast ones
 //!   instances  graphs of our own making
 //!   calls      the exported calls on slices
+//!   hold       what a call gives, held to what is wanted
 //!   cases      inputs that several tests share
 pub mod book;
 pub mod brute;
@@ -18,6 +19,7 @@ pub mod calls;
 pub mod cases;
 pub mod cliques;
 pub mod fp;
+pub mod hold;
 pub mod instances;
 pub mod largest;
 pub mod plain;

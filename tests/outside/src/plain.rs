@@ -38,6 +38,11 @@ pub fn is_plex(rows: &[u64], k: usize, s: u64) -> bool {
     set.iter().all(|&v| set.iter().filter(|&&w| adjacent(rows, v, w)).count() + k >= set.len())
 }
 
+/// How many members count at the floor: those that are not silent.
+pub fn recorded(s: u64, silent: u64) -> usize {
+    members(s).into_iter().filter(|&v| silent >> v & 1 == 0).count()
+}
+
 /// A k-plex that no other k-plex contains. All sets that contain it are tried, so few vertices may lie outside.
 pub fn is_maximal_by_all(rows: &[u64], k: usize, s: u64) -> bool {
     let outside: Vec<usize> = (0..rows.len()).filter(|&v| s >> v & 1 == 0).collect();

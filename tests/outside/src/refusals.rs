@@ -48,15 +48,30 @@ pub fn maximal(rows: &[u64], k: usize, s: u64) -> Refused {
     vertices(rows.len()).or_else(|| slack(k)).or_else(|| edges(rows)).or_else(|| when(reaches(s, rows.len()), 7, 0))
 }
 
-/// 1, 2, 3, 4, 5: of the core, and of the list and of writing before their buffers are looked at.
-pub fn request(rows: &[u64], k: usize, q: usize) -> Refused {
-    vertices(rows.len()).or_else(|| slack(k)).or_else(|| floor(k, q)).or_else(|| edges(rows))
+/// 1, 2, 3: of numbers alone.
+pub fn numbers(n: usize, k: usize, q: usize) -> Refused {
+    vertices(n).or_else(|| slack(k)).or_else(|| floor(k, q))
 }
 
-/// 1, 2, 3, 4, 5, 7, 12, 13: of a change, before its list is made and its slots are looked at.
-pub fn change(rows: &[u64], k: usize, q: usize, a: usize, b: usize, to_be: bool) -> Refused {
+/// 1, 2, 3, 4, 5: of the core.
+pub fn core(rows: &[u64], k: usize, q: usize) -> Refused {
+    numbers(rows.len(), k, q).or_else(|| edges(rows))
+}
+
+/// 7, 4, 5: of a table of 1 to 64 rows with silent vertices.
+pub fn silent_edges(rows: &[u64], silent: u64) -> Refused {
+    when(reaches(silent, rows.len()), 7, 0).or_else(|| edges(rows))
+}
+
+/// 1, 2, 3, 7, 4, 5: of the list and of writing before their buffers are looked at.
+pub fn request(rows: &[u64], k: usize, q: usize, silent: u64) -> Refused {
+    numbers(rows.len(), k, q).or_else(|| silent_edges(rows, silent))
+}
+
+/// 1, 2, 3, 7 of the silent vertices, 4, 5, 7 of the two named, 12, 13: of a change, before its list is made and its slots are looked at.
+pub fn change(rows: &[u64], k: usize, q: usize, silent: u64, a: usize, b: usize, to_be: bool) -> Refused {
     let outside = || when(a >= rows.len() || b >= rows.len(), 7, 0);
-    request(rows, k, q).or_else(outside).or_else(|| when(a == b, 12, 0)).or_else(|| when(adjacent(rows, a, b) == to_be, 13, 0))
+    request(rows, k, q, silent).or_else(outside).or_else(|| when(a == b, 12, 0)).or_else(|| when(adjacent(rows, a, b) == to_be, 13, 0))
 }
 
 /// 1, 4, 5, 7: of the reach.

@@ -1,5 +1,5 @@
 //! Sheets, read and written by lines.
-use crate::refusals::{edges, floor, slack, vertices, when};
+use crate::refusals::{numbers, silent_edges, when};
 
 /// What a sheet says.
 #[derive(Clone, Debug, PartialEq, Eq)]
@@ -7,10 +7,11 @@ pub struct Sheet {
     pub rows: Vec<u64>,
     pub slack: usize,
     pub floor: usize,
+    pub silent: u64,
 }
 
-pub fn write(rows: &[u64], k: usize, q: usize) -> Vec<u8> {
-    let lines: String = rows.iter().map(|row| format!("{row:016X}\n")).collect();
+pub fn write(rows: &[u64], k: usize, q: usize, silent: u64) -> Vec<u8> {
+    let lines: String = [silent].iter().chain(rows).map(|mask| format!("{mask:016X}\n")).collect();
     format!("{:02X}{k:02X}{q:02X}\n{lines}", rows.len()).into_bytes()
 }
 
@@ -27,16 +28,15 @@ pub fn read(text: &[u8], room: usize) -> Result<Sheet, (usize, usize)> {
     let cut_short = lines.pop().unwrap();
     let heading = lines.first().and_then(|line| number(line, 6)).ok_or((8, 1))? as usize;
     let (n, k, q) = (heading >> 16, heading >> 8 & 255, heading & 255);
-    if let Some(refused) = vertices(n).or_else(|| slack(k)).or_else(|| floor(k, q)) {
+    if let Some(refused) = numbers(n, k, q) {
         return Err(refused);
     }
-    let mut rows = vec![];
-    for a in 0..n {
-        rows.push(lines.get(a + 1).and_then(|line| number(line, 16)).ok_or((8, a + 2))?);
-    }
-    let more = lines.len() > n + 1 || !cut_short.is_empty();
-    match when(more, 8, n + 2).or_else(|| edges(&rows)).or_else(|| when(room < n, 9, n)) {
+    let mask = |line: usize| lines.get(line - 1).and_then(|line| number(line, 16)).ok_or((8, line));
+    let silent = mask(2)?;
+    let rows = (0..n).map(|a| mask(a + 3)).collect::<Result<Vec<u64>, _>>()?;
+    let more = lines.len() > n + 2 || !cut_short.is_empty();
+    match when(more, 8, n + 3).or_else(|| silent_edges(&rows, silent)).or_else(|| when(room < n, 9, n)) {
         Some(refused) => Err(refused),
-        None => Ok(Sheet { rows, slack: k, floor: q }),
+        None => Ok(Sheet { rows, slack: k, floor: q, silent }),
     }
 }

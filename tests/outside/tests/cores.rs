@@ -110,7 +110,7 @@ fn it_holds_every_listed_plex() {
         let (rows, k) = (graph(&mut rng, 1, 18), rng.between(1, 3));
         let q = 2 * k - 1 + rng.below(5);
         let (within, _) = hold(&rows, k, q);
-        for plex in kadvisk::list_all(&rows, k, q).unwrap() {
+        for plex in kadvisk::list_all(&rows, k, q, 0).unwrap() {
             assert_eq!(plex & !within, 0);
             for v in plain::members(plex) {
                 assert_eq!(plex & !reach(&rows, v).found, 0);
@@ -133,7 +133,7 @@ fn each_refusal_beside_each_other() {
                     continue;
                 }
                 let owed = first_of([(1, 0), (2, 0), (3, 0), (4, 3), (5, 2)], causes);
-                assert_eq!(owed, refusals::request(&rows, k, q), "causes {causes:?} k={k} q={q}");
+                assert_eq!(owed, refusals::core(&rows, k, q), "causes {causes:?} k={k} q={q}");
                 let want = owed.map_or_else(|| cored(plain::passes(&rows, q - k)), core_refused);
                 assert_eq!(core(&rows, k, q), want, "causes {causes:?} k={k} q={q}");
             }

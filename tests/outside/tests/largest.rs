@@ -170,7 +170,7 @@ fn the_mask_stands_in_the_list() {
         let forced = some_forced(&mut rng, &rows, k);
         let Largest { size, mask } = kadvisk::largest(&rows, k, forced).unwrap();
         for q in (2 * k - 1..=size).rev().take(if rows.len() > 14 { 2 } else { 64 }) {
-            let list = kadvisk::list_all(&rows, k, q).unwrap();
+            let list = kadvisk::list_all(&rows, k, q, 0).unwrap();
             let holding: Vec<u64> = list.into_iter().filter(|t| t & forced == forced).collect();
             assert!(holding.contains(&mask), "{rows:X?} k={k} forced={forced:X} q={q}");
             let better = |&&t: &&u64| members(t).len() > size || members(t).len() == size && t < mask;

@@ -1,29 +1,15 @@
-//! The list: against trying all sets up to 16 vertices, and against the published algorithm up to 64; every setting of the cuts; what the slots hold.
-use outside::calls::{list, list_with, refused, success};
+//! The list without silent vertices: against trying all sets up to 16 vertices, and against the published algorithm up to 64; every setting of the cuts; what
+//! the slots hold.
+use outside::calls::{list, refused, success};
 use outside::cases::{all_graphs, graph, many};
 use outside::instances::{self, Rng};
-use outside::{brute, cliques, fp};
+use outside::{brute, cliques, fp, hold};
 
 const GARBAGE: u64 = 0xDEAD_BEEF_0BAD_F00D;
 
-/// Holds the call to the list that is wanted: into more slots than needed, into just as many, into one less, and into none.
+/// Holds the call to the list that is wanted, where no vertex is silent.
 fn hold(rows: &[u64], k: usize, q: usize, want: &[u64]) {
-    let m = want.len();
-    let mut slots = vec![GARBAGE; m + 3];
-    assert_eq!(list(rows, k, q, &mut slots), success(m, 0), "{rows:X?} k={k} q={q}");
-    assert_eq!(&slots[..m], want, "{rows:X?} k={k} q={q}");
-    assert_eq!(slots[m..], [GARBAGE; 3], "slots beyond the list");
-    let mut exact = vec![GARBAGE; m];
-    assert_eq!(list(rows, k, q, &mut exact), success(m, 0));
-    assert_eq!(exact, want);
-    if m > 0 {
-        let mut short = vec![GARBAGE; m - 1];
-        assert_eq!(list(rows, k, q, &mut short), refused((6, m)));
-        assert!(short.iter().all(|&slot| slot == 0), "all slots become 0");
-        assert_eq!(list(rows, k, q, &mut []), refused((6, m)));
-    } else {
-        assert_eq!(list(rows, k, q, &mut []), success(0, 0));
-    }
+    hold::list(rows, k, q, 0, want);
 }
 
 #[test]
@@ -33,7 +19,7 @@ fn every_graph_of_up_to_five_vertices() {
         for rows in all_graphs(n) {
             for k in 1..=5 {
                 for q in 2 * k - 1..=n.max(2 * k - 1) + 1 {
-                    hold(&rows, k, q, &brute::list(&rows, k, q));
+                    hold(&rows, k, q, &brute::list(&rows, k, q, 0));
                     cases += 1;
                 }
             }
@@ -51,7 +37,7 @@ fn random_graphs_of_up_to_16_vertices() {
         let rows = if case % 25 == 0 { graph(&mut rng, 13, 16) } else { graph(&mut rng, 1, 12) };
         let k = if rng.chance(0.85) { rng.between(1, 3) } else { rng.between(4, 5) };
         let q = (2 * k - 1 + rng.below(4)).min(64);
-        let want = brute::list(&rows, k, q);
+        let want = brute::list(&rows, k, q, 0);
         plexes += want.len();
         hold(&rows, k, q, &want);
     }
@@ -114,20 +100,11 @@ fn every_setting_of_the_cuts_gives_the_same_list() {
     for case in 0..many(600) {
         let (rows, k) = if case % 4 == 0 { (graph(&mut rng, 30, 64), rng.between(1, 2)) } else { (graph(&mut rng, 1, 12), rng.between(1, 4)) };
         let q = if case % 4 == 0 { (rows.len() / 2).max(2 * k - 1) } else { 2 * k - 1 + rng.below(3) };
-        let want = if case % 4 == 0 { fp::list(&rows, k, q) } else { brute::list(&rows, k, q) };
+        let want = if case % 4 == 0 { fp::list(&rows, k, q) } else { brute::list(&rows, k, q, 0) };
         if want.len() > 2000 {
             continue;
         }
-        for bits in 0..128 {
-            let mut slots = vec![GARBAGE; want.len() + 1];
-            assert_eq!(list_with(&rows, k, q, bits, &mut slots), success(want.len(), 0), "flags {bits} {rows:X?} k={k} q={q}");
-            assert_eq!(slots[..want.len()], want, "flags {bits} {rows:X?} k={k} q={q}");
-            assert_eq!(slots[want.len()], GARBAGE);
-            let mut short = vec![GARBAGE; want.len().saturating_sub(1)];
-            let outcome = list_with(&rows, k, q, bits, &mut short);
-            assert_eq!(outcome, if want.is_empty() { success(0, 0) } else { refused((6, want.len())) });
-            assert!(want.is_empty() || short.iter().all(|&slot| slot == 0));
-        }
+        (0..128).for_each(|flags| hold::list_with(&rows, k, q, 0, flags, &want));
     }
 }
 
@@ -147,18 +124,18 @@ fn graphs_of_the_challenge() {
     }
     // each vertex of MANN_a9 misses at most five, itself counted
     hold(&instances::mann_a9(), 5, 45, &[(1 << 45) - 1]);
-    assert_eq!(list(&instances::hamming6(2), 1, 33, &mut []), success(0, 0));
+    assert_eq!(list(&instances::hamming6(2), 1, 33, 0, &mut []), success(0, 0));
 }
 
 #[test]
 fn long_lists_are_counted_exactly() {
     let mann = instances::mann_a9();
     let mut some = vec![GARBAGE; 4096];
-    assert_eq!(list(&mann, 1, 11, &mut some), refused((6, 590_886)));
+    assert_eq!(list(&mann, 1, 11, 0, &mut some), refused((6, 590_886)));
     assert!(some.iter().all(|&slot| slot == 0));
     let mut m = 0;
     fp::run(&instances::hamming6(4), 3, 5, &mut |_| m += 1);
-    assert_eq!(list(&instances::hamming6(4), 3, 5, &mut []), refused((6, m)));
+    assert_eq!(list(&instances::hamming6(4), 3, 5, 0, &mut []), refused((6, m)));
     let half = instances::random(64, 0.5, 1);
     hold(&half, 2, 8, &fp::list(&half, 2, 8));
 }
@@ -225,14 +202,14 @@ fn the_slots_decide_nothing() {
     for _ in 0..many(3000) {
         let (rows, k) = (graph(&mut rng, 1, 20), rng.between(1, 3));
         let q = 2 * k - 1 + rng.below(6);
-        let want = kadvisk::list_all(&rows, k, q).unwrap();
+        let want = kadvisk::list_all(&rows, k, q, 0).unwrap();
         if want.len() > 3000 {
             continue;
         }
         let garbage: Vec<u64> =
             (0..want.len() + 5).map(|_| if rng.chance(0.5) { rng.word() } else { want.get(rng.below(want.len() + 1)).copied().unwrap_or(0) }).collect();
         let mut slots = garbage.clone();
-        assert_eq!(list(&rows, k, q, &mut slots), success(want.len(), 0));
+        assert_eq!(list(&rows, k, q, 0, &mut slots), success(want.len(), 0));
         assert_eq!(slots[..want.len()], want);
         assert_eq!(slots[want.len()..], garbage[want.len()..]);
         assert!(want.windows(2).all(|pair| pair[0] < pair[1]), "rising, each once");

@@ -1,7 +1,7 @@
 //! The program `kplexes`: sheets, damaged sheets and random bytes on its standard input, against what the rules of the sheet and of the list say.
-use outside::cases::{graph, many};
+use outside::cases::{graph, many, silent};
 use outside::instances::{self, Rng};
-use outside::{fp, text};
+use outside::{book, text};
 use std::io::Write;
 use std::path::PathBuf;
 use std::process::{Command, Stdio};
@@ -23,14 +23,14 @@ fn run(program: &PathBuf, input: &[u8]) -> Vec<u8> {
     output.stdout
 }
 
-/// What the program owes: at most 1,096 bytes are looked at, and there are 4,096 slots.
+/// What the program owes: at most 1,113 bytes are looked at, and there are 4,096 slots.
 fn owed(input: &[u8]) -> Vec<u8> {
     let refusal = |number: usize, value: usize| format!("R{number:02} {value:016X}\n").into_bytes();
-    let sheet = match text::read(&input[..input.len().min(1096)], 64) {
+    let sheet = match text::read(&input[..input.len().min(1113)], 64) {
         Ok(sheet) => sheet,
         Err((number, value)) => return refusal(number, value),
     };
-    let list = fp::list(&sheet.rows, sheet.slack, sheet.floor);
+    let list = book::list(&sheet.rows, sheet.slack, sheet.floor, sheet.silent);
     if list.len() > 4096 {
         return refusal(6, list.len());
     }
@@ -46,10 +46,15 @@ fn hold(program: &PathBuf, input: &[u8]) {
 #[test]
 fn the_ring() {
     let program = program();
-    let ring = text::write(&[0x12, 0x05, 0x0A, 0x14, 0x09], 2, 3);
+    let ring = text::write(&[0x12, 0x05, 0x0A, 0x14, 0x09], 2, 3, 0);
     assert_eq!(run(&program, &ring), b"0000000000000005\n0000000000000007\n000000000000000E\n0000000000000013\n0000000000000019\n000000000000001C\n");
     assert_eq!(run(&program, b""), b"R08 0000000000000001\n");
     hold(&program, &ring);
+    // vertex 3 is silent, a sixth would be, and the sheet has no line 2
+    let ring = |silent: u64| text::write(&[0x12, 0x05, 0x0A, 0x14, 0x09], 2, 3, silent);
+    assert_eq!(run(&program, &ring(0x08)), b"0000000000000002\n0000000000000007\n0000000000000013\n");
+    assert_eq!(run(&program, &ring(0x20)), b"R07 0000000000000000\n");
+    assert_eq!(run(&program, &[&ring(0)[..7], &ring(0)[24..]].concat()), b"R08 0000000000000007\n");
 }
 
 #[test]
@@ -58,27 +63,32 @@ fn sheets() {
     let mut rng = Rng(40);
     for _ in 0..many(400) {
         let (rows, k) = (graph(&mut rng, 1, 24), rng.between(1, 3));
-        hold(&program, &text::write(&rows, k, 2 * k - 1 + rng.below(8)));
+        let silent = silent(&mut rng, rows.len());
+        hold(&program, &text::write(&rows, k, 2 * k - 1 + rng.below(8), silent));
     }
-    hold(&program, &text::write(&instances::complete(64), 1, 64));
-    hold(&program, &text::write(&instances::complete(64), 5, 9));
-    hold(&program, &text::write(&instances::random(64, 0.3, 1), 2, 3));
-    hold(&program, &text::write(&instances::random(64, 0.2, 1), 1, 2));
+    hold(&program, &text::write(&instances::complete(64), 1, 64, 0));
+    hold(&program, &text::write(&instances::complete(64), 5, 9, 0));
+    hold(&program, &text::write(&instances::random(64, 0.3, 1), 2, 3, 0));
+    hold(&program, &text::write(&instances::random(64, 0.2, 1), 1, 2, 0));
     // just as many masks as there are slots, and one plex more
     let pairs = |n: usize| (0..n).map(|v| if v ^ 1 < n { 1u64 << (v ^ 1) } else { 0 }).collect::<Vec<u64>>();
-    hold(&program, &text::write(&pairs(64), 2, 3));
+    hold(&program, &text::write(&pairs(64), 2, 3, 0));
     let parts = instances::multipartite(24, 2);
-    hold(&program, &text::write(&parts, 1, 12));
+    hold(&program, &text::write(&parts, 1, 12, 0));
     let mut joined = parts.clone();
     joined.push(0);
-    hold(&program, &text::write(&joined, 1, 1));
+    hold(&program, &text::write(&joined, 1, 1, 0));
+    // that one is silent: again as many as there are slots
+    hold(&program, &text::write(&joined, 1, 1, 1 << 24));
+    hold(&program, &text::write(&instances::complete(64), 5, 33, u64::MAX >> 31));
+    hold(&program, &text::write(&instances::complete(64), 5, 32, u64::MAX >> 32));
 }
 
 #[test]
 fn every_slack_of_a_sheet() {
     let (program, parts) = (program(), instances::multipartite(11, 6));
     for k in 0..=255usize {
-        let sheet = text::write(&parts, k, (2 * k).saturating_sub(1).clamp(1, 64));
+        let sheet = text::write(&parts, k, (2 * k).saturating_sub(1).clamp(1, 64), 0);
         hold(&program, &sheet);
         let refused = !(1..=5).contains(&k);
         assert_eq!(run(&program, &sheet) == b"R02 0000000000000000\n", refused, "k={k}");
@@ -89,9 +99,11 @@ fn every_slack_of_a_sheet() {
 fn damaged_sheets() {
     let program = program();
     let mut rng = Rng(41);
-    for _ in 0..many(1000) {
-        let mut sheet = text::write(&graph(&mut rng, 1, 10), 2, 3);
-        let at = rng.below(sheet.len());
+    for case in 0..many(1000) {
+        let rows = graph(&mut rng, 1, 10);
+        let mut sheet = text::write(&rows, 2, 3, silent(&mut rng, rows.len()));
+        // line 2 in every fourth sheet
+        let at = if case % 4 == 0 { rng.between(7, 23) } else { rng.below(sheet.len()) };
         match rng.below(4) {
             0 => sheet.truncate(at),
             1 => sheet[at] = rng.word() as u8,
@@ -100,7 +112,7 @@ fn damaged_sheets() {
         }
         hold(&program, &sheet);
     }
-    let longest = text::write(&instances::complete(64), 1, 64);
+    let longest = text::write(&instances::complete(64), 1, 64, 0);
     hold(&program, &[&longest[..], b"\n"].concat());
     hold(&program, &[&longest[..], &[b'0'; 70_000][..]].concat());
 }

@@ -70,7 +70,7 @@ fn core_and_reach() {
     for _ in 0..many(20_000) {
         let (rows, k) = (table(&mut rng), slack(&mut rng));
         let q = floor(&mut rng, k);
-        cores.count(refusals::request(&rows, k, q), |owed| match owed {
+        cores.count(refusals::core(&rows, k, q), |owed| match owed {
             Some(refusal) => assert_eq!(core(&rows, k, q), core_refused(refusal)),
             None => assert_eq!(core(&rows, k, q), cored(plain::passes(&rows, q - k))),
         });
@@ -106,21 +106,21 @@ fn lists() {
             let n = rows.len();
             rows.iter_mut().for_each(|row| *row &= (1u64 << n.min(63)) - 1);
         }
-        let q = floor(&mut rng, k);
-        let owed = refusals::request(&rows, k, q);
+        let (q, silent) = (floor(&mut rng, k), set(&mut rng, rows.len()));
+        let owed = refusals::request(&rows, k, q, silent);
         if owed.is_none() && rows.len() > 24 {
             continue;
         }
         let garbage: Vec<u64> = (0..rng.below(30)).map(|i| GARBAGE + i as u64).collect();
         let mut slots = garbage.clone();
-        let outcome = list(&rows, k, q, &mut slots);
+        let outcome = list(&rows, k, q, silent, &mut slots);
         match owed {
             Some(refusal) => {
                 tally.hold(outcome, Some(refusal), || unreachable!());
-                assert_eq!(slots, garbage, "refusals 1 to 5 leave the slots");
+                assert_eq!(slots, garbage, "refusals 1 to 5 and 7 leave the slots");
             }
             None => {
-                let want = outside::fp::list(&rows, k, q);
+                let want = outside::book::list(&rows, k, q, silent);
                 let m = want.len();
                 tally.hold(outcome, when(slots.len() < m, 6, m), || success(m, 0));
                 let after = if slots.len() < m { vec![0; slots.len()] } else { [&want[..], &garbage[m..]].concat() };
@@ -128,7 +128,7 @@ fn lists() {
             }
         }
     }
-    tally.all_of(&[0, 1, 2, 3, 4, 5, 6]);
+    tally.all_of(&[0, 1, 2, 3, 4, 5, 6, 7]);
 }
 
 /// A number for a vertex: one of the graph, mostly.
@@ -149,15 +149,15 @@ fn changes() {
             let n = rows.len();
             rows.iter_mut().for_each(|row| *row &= (1u64 << n.min(63)) - 1);
         }
-        let q = floor(&mut rng, k);
+        let (q, silent) = (floor(&mut rng, k), set(&mut rng, rows.len()));
         let (a, b, adjacent) = (vertex(&mut rng, rows.len()), vertex(&mut rng, rows.len()), rng.chance(0.5));
-        let owed = refusals::change(&rows, k, q, a, b, adjacent);
+        let owed = refusals::change(&rows, k, q, silent, a, b, adjacent);
         if owed.is_none() && rows.len() > 24 {
             continue;
         }
         let slots = (0..rng.below(30)).map(|i| GARBAGE + i as u64).collect();
-        let mut book = Book { rows, slack: k, floor: q, slots };
-        let (outcome, after) = book.owed(Change { a, b, adjacent }, outside::fp::list);
+        let mut book = Book { rows, slack: k, floor: q, silent, slots };
+        let (outcome, after) = book.owed(Change { a, b, adjacent }, outside::book::list);
         let told = when(outcome.number != 0, outcome.number, outcome.value);
         assert!(owed.is_none() || owed == told);
         tally.hold(book.change(Change { a, b, adjacent }), told, || outcome);
@@ -194,17 +194,17 @@ fn writing() {
     let (mut rng, mut tally) = (Rng(34), Tally([0; 14]));
     for _ in 0..many(10_000) {
         let (rows, k) = (table(&mut rng), slack(&mut rng));
-        let q = floor(&mut rng, k);
-        let needed = 7 + 17 * rows.len();
+        let (q, silent) = (floor(&mut rng, k), set(&mut rng, rows.len()));
+        let needed = 24 + 17 * rows.len();
         let mut bytes = vec![0xC3; if rng.chance(0.5) { needed + rng.below(9) } else { rng.below(needed + 1) }];
-        let owed = refusals::request(&rows, k, q).or_else(|| when(bytes.len() < needed, 9, needed));
+        let owed = refusals::request(&rows, k, q, silent).or_else(|| when(bytes.len() < needed, 9, needed));
         let room = bytes.len();
-        tally.hold(write_sheet(&rows, k, q, &mut bytes), owed, || success(needed, 0));
-        let written = if owed.is_some() { vec![] } else { text::write(&rows, k, q) };
+        tally.hold(write_sheet(&rows, k, q, silent, &mut bytes), owed, || success(needed, 0));
+        let written = if owed.is_some() { vec![] } else { text::write(&rows, k, q, silent) };
         assert_eq!(bytes[..written.len()], written);
         assert_eq!(bytes[written.len()..], vec![0xC3; room - written.len()]);
     }
-    tally.all_of(&[0, 1, 2, 3, 4, 5, 9]);
+    tally.all_of(&[0, 1, 2, 3, 4, 5, 7, 9]);
 }
 
 #[test]
@@ -230,7 +230,7 @@ fn limits_of_slack_and_floor() {
         (1, usize::MAX, 3),
         (1usize << 63, 0, 2),
     ] {
-        assert_eq!(list(&rows, k, q, &mut none), refused((number, (number == 6) as usize)), "k={k} q={q}");
+        assert_eq!(list(&rows, k, q, 0, &mut none), refused((number, (number == 6) as usize)), "k={k} q={q}");
     }
 }
 
@@ -249,18 +249,81 @@ fn the_order_of_causes_of_looseness() {
     }
 }
 
+/// What the list and writing are asked, with the chosen ones of the causes 1, 2, 3, 7, 4, 5, in one of four ways. But for the causes the graph has five
+/// vertices and no edge, and some of them are silent.
+fn faulty(causes: [bool; 6], empty: bool, way: usize) -> (Vec<u64>, usize, usize, u64) {
+    let [vertices, slack, floor, silent, row, one_way] = causes;
+    let slack = if slack { [0, 6, 1 << 63, usize::MAX][way] } else { 1 };
+    let floor = if floor { [0, 65, 1 << 63, usize::MAX][way] } else { 1 };
+    let silent = if silent { [1 << 5, 1 << 63, u64::MAX, 0x30][way] } else { [0, 0x01, 0x10, 0x14][way] };
+    (faulty_rows([vertices, row, one_way], empty), slack, floor, silent)
+}
+
+/// Every choice of the causes, in every way.
+fn choices<const N: usize>() -> impl Iterator<Item = ([bool; N], bool, usize)> {
+    let ways = [(false, 0), (false, 1), (false, 2), (false, 3), (true, 0), (true, 3)];
+    (0..1usize << N).flat_map(move |choice| ways.map(|(empty, way)| (std::array::from_fn(|i| choice >> i & 1 == 1), empty, way)))
+}
+
+#[test]
+fn the_order_of_causes_of_the_list() {
+    // 1, 2, 3, 7, 4, 5, and 6: each beside each other
+    let mut tally = Tally([0; 14]);
+    for (causes, empty, way) in choices::<7>() {
+        let (rows, k, q, silent) = faulty(std::array::from_fn(|i| causes[i]), empty, way);
+        let want: Vec<u64> = (0..5).map(|v| 1 << v).filter(|s| s & silent == 0).collect();
+        let garbage = vec![GARBAGE; if causes[6] { way.min(2) } else { 5 }];
+        let owed = first_of([(1, 0), (2, 0), (3, 0), (7, 0), (4, 3), (5, 2), (6, want.len())], causes);
+        let after = match owed {
+            Some((6, _)) => vec![0; garbage.len()],
+            Some(_) => garbage.clone(),
+            None => [&want[..], &garbage[want.len()..]].concat(),
+        };
+        assert!(causes[6] || owed == refusals::request(&rows, k, q, silent));
+        let (mut slots, mut others) = (garbage.clone(), garbage);
+        tally.hold(list(&rows, k, q, silent, &mut slots), owed, || success(want.len(), 0));
+        tally.hold(list_with(&rows, k, q, silent, 42, &mut others), owed, || success(want.len(), 0));
+        assert_eq!((&slots, &others), (&after, &after), "causes {causes:?}, way {way}");
+    }
+    println!("{:?}", tally.0);
+    assert!([0, 1, 2, 3, 4, 5, 6, 7].iter().all(|&number| tally.0[number] > 0));
+}
+
+#[test]
+fn the_order_of_causes_of_writing() {
+    // 1, 2, 3, 7, 4, 5, and 9: each beside each other
+    let mut tally = Tally([0; 14]);
+    for (causes, empty, way) in choices::<7>() {
+        let (rows, k, q, silent) = faulty(std::array::from_fn(|i| causes[i]), empty, way);
+        let needed = 24 + 17 * rows.len();
+        let before = vec![0xC3; if causes[6] { [0, 23, 24, needed - 1][way].min(needed - 1) } else { needed + way }];
+        let owed = first_of([(1, 0), (2, 0), (3, 0), (7, 0), (4, 3), (5, 2), (9, needed)], causes);
+        let mut bytes = before.clone();
+        tally.hold(write_sheet(&rows, k, q, silent, &mut bytes), owed, || success(needed, 0));
+        let after = if owed.is_some() { before } else { [&text::write(&rows, k, q, silent)[..], &before[needed..]].concat() };
+        assert_eq!(bytes, after, "causes {causes:?}, way {way}");
+    }
+    println!("{:?}", tally.0);
+    assert!([0, 1, 2, 3, 4, 5, 7, 9].iter().all(|&number| tally.0[number] > 0));
+}
+
 #[test]
 fn the_order_of_causes() {
     // all causes at once, then one after the other put right
     let mut slots = [GARBAGE; 1];
-    let mut call = |rows: &[u64], k, q, want: Outcome| assert_eq!(list(rows, k, q, &mut slots), want);
-    call(&[0; 65], 6, 65, refused((1, 0)));
-    call(&[], 6, 65, refused((1, 0)));
-    call(&[3, 4, 0], 6, 65, refused((2, 0)));
-    call(&[3, 4, 0], 2, 65, refused((3, 0)));
-    call(&[2, 4, 8, 0], 2, 3, refused((5, 0)));
-    call(&[2, 5, 4, 0], 2, 3, refused((4, 2)));
-    call(&[2, 1, 8 | 16, 4], 2, 3, refused((4, 2)));
-    call(&[2, 1, 8, 0], 2, 3, refused((5, 2)));
-    call(&[2, 1, 8, 4], 1, 2, refused((6, 2)));
+    let mut call = |rows: &[u64], k, q, silent, want: Outcome| assert_eq!(list(rows, k, q, silent, &mut slots), want);
+    call(&[0; 65], 6, 65, u64::MAX, refused((1, 0)));
+    call(&[], 6, 65, u64::MAX, refused((1, 0)));
+    call(&[3, 4, 0], 6, 65, u64::MAX, refused((2, 0)));
+    call(&[3, 4, 0], 2, 65, u64::MAX, refused((3, 0)));
+    call(&[3, 4, 0], 2, 3, 1 << 3, refused((7, 0)));
+    call(&[2, 4, 8, 0], 2, 3, 1 << 63, refused((7, 0)));
+    call(&[2, 4, 8, 0], 2, 3, 0xF, refused((5, 0)));
+    call(&[2, 5, 4, 0], 2, 3, 0xF, refused((4, 2)));
+    call(&[2, 1, 8 | 16, 4], 2, 3, 0, refused((4, 2)));
+    call(&[2, 1, 8, 0], 2, 3, 0, refused((5, 2)));
+    call(&[2, 1, 8, 4], 1, 2, 0x10, refused((7, 0)));
+    call(&[2, 1, 8, 4], 1, 2, 0, refused((6, 2)));
+    call(&[2, 1, 8, 4], 1, 2, 0x1, success(1, 0));
+    assert_eq!(slots, [0xC]);
 }

@@ -1,6 +1,6 @@
 //! Every call that takes a slack, at each slack from 0 to 40 and at very large ones: 1 to 5 are answered, and every other is refusal 2, which leaves the
 //! buffers.
-use kadvisk::ffi::{Outcome, ReadOutcome};
+use kadvisk::ffi::Outcome;
 use outside::book::{Book, Change};
 use outside::calls::*;
 use outside::cases::LARGE_SLACKS;
@@ -62,7 +62,7 @@ fn of_the_core() {
         for q in floors(k) {
             let outcome = core(rows, k, q);
             hold_two(outcome.number, k);
-            let owed = refusals::request(rows, k, q);
+            let owed = refusals::core(rows, k, q);
             assert_eq!(outcome, owed.map_or_else(|| cored(plain::passes(rows, q - k)), core_refused));
         }
     });
@@ -72,19 +72,19 @@ fn of_the_core() {
 fn of_the_list_with_every_cut_and_none() {
     let mut listed = [0; 6];
     each(|rows, k| {
-        for q in floors(k) {
-            let owed = refusals::request(rows, k, q);
-            let want = if owed.is_none() { brute::list(rows, k, q) } else { vec![] };
+        for (q, silent) in floors(k).into_iter().flat_map(|q| [(q, 0), (q, 0x05)]) {
+            let owed = refusals::request(rows, k, q, silent);
+            let want = if owed.is_none() { brute::list(rows, k, q, silent) } else { vec![] };
             let m = want.len();
             let after = [&want[..], &[GARBAGE; 2]].concat();
-            let calls: [&dyn Fn(&mut [u64]) -> Outcome; 3] =
-                [&|slots| list(rows, k, q, slots), &|slots| list_with(rows, k, q, 127, slots), &|slots| list_with(rows, k, q, 0, slots)];
+            let with = |flags| move |slots: &mut [u64]| list_with(rows, k, q, silent, flags, slots);
+            let calls: [&dyn Fn(&mut [u64]) -> Outcome; 3] = [&|slots| list(rows, k, q, silent, slots), &with(127), &with(0)];
             for call in calls {
                 let mut slots = vec![GARBAGE; m + 2];
                 let outcome = call(&mut slots);
                 hold_two(outcome.number, k);
-                assert_eq!(outcome, owed.map_or(success(m, 0), refused), "{rows:X?} k={k} q={q}");
-                assert_eq!(slots, after, "{rows:X?} k={k} q={q}");
+                assert_eq!(outcome, owed.map_or(success(m, 0), refused), "{rows:X?} k={k} q={q} silent={silent:X}");
+                assert_eq!(slots, after, "{rows:X?} k={k} q={q} silent={silent:X}");
             }
             if owed.is_none() {
                 listed[k] += m;
@@ -98,13 +98,13 @@ fn of_the_list_with_every_cut_and_none() {
 #[test]
 fn of_a_change_of_a_book() {
     each(|rows, k| {
-        for q in floors(k) {
+        for (q, silent) in floors(k).into_iter().flat_map(|q| [(q, 0), (q, 0x05)]) {
             let change = Change::of(rows, 0, rows.len() - 1);
-            let mut book = Book { rows: rows.to_vec(), slack: k, floor: q, slots: vec![GARBAGE; 200] };
+            let mut book = Book { rows: rows.to_vec(), slack: k, floor: q, silent, slots: vec![GARBAGE; 200] };
             let (want, after) = book.owed(change, brute::list);
             let outcome = book.change(change);
             hold_two(outcome.number, k);
-            assert_eq!((outcome, &book), (want, &after), "{rows:X?} k={k} q={q}");
+            assert_eq!((outcome, &book), (want, &after), "{rows:X?} k={k} q={q} silent={silent:X}");
         }
     });
 }
@@ -113,13 +113,13 @@ fn of_a_change_of_a_book() {
 fn of_writing_a_sheet() {
     each(|rows, k| {
         for (q, short) in floors(k).into_iter().flat_map(|q| [(q, 0), (q, 1)]) {
-            let needed = 7 + 17 * rows.len();
+            let needed = 24 + 17 * rows.len();
             let mut bytes = vec![0xC3; needed - short];
-            let outcome = write_sheet(rows, k, q, &mut bytes);
+            let outcome = write_sheet(rows, k, q, 0x05, &mut bytes);
             hold_two(outcome.number, k);
-            let owed = refusals::request(rows, k, q).or_else(|| when(short > 0, 9, needed));
+            let owed = refusals::request(rows, k, q, 0x05).or_else(|| when(short > 0, 9, needed));
             assert_eq!(outcome, owed.map_or(success(needed, 0), refused));
-            assert_eq!(bytes, if owed.is_some() { vec![0xC3; needed - short] } else { text::write(rows, k, q) });
+            assert_eq!(bytes, if owed.is_some() { vec![0xC3; needed - short] } else { text::write(rows, k, q, 0x05) });
         }
     });
 }
@@ -130,10 +130,10 @@ fn of_reading_a_sheet() {
     // two digits: 0 to 255
     for (k, q) in (0..256).flat_map(|k| (0..256).map(move |q| (k, q))) {
         let mut rows = before;
-        let outcome = read_sheet(&text::write(&ring, k, q), &mut rows);
+        let outcome = read_sheet(&text::write(&ring, k, q, 0x05), &mut rows);
         hold_two(outcome.number, k);
         let owed = refusals::slack(k).or_else(|| refusals::floor(k, q));
-        assert_eq!(outcome, owed.map_or(ReadOutcome { number: 0, value: 0, vertices: 5, slack: k, floor: q }, unread));
+        assert_eq!(outcome, owed.map_or(read(5, k, q, 0x05), unread));
         assert_eq!(rows[..], if owed.is_some() { before.to_vec() } else { [&ring[..], &[GARBAGE]].concat() });
     }
 }
@@ -143,12 +143,12 @@ fn of_the_wrapper() {
     let ring = instances::ring(5);
     for k in slacks() {
         let owed = if (1..=5).contains(&k) { Ok(()) } else { Err(kadvisk::Refusal::Slack) };
-        assert_eq!(kadvisk::list(&ring, k, 64, &mut []).map(|_| ()), owed);
+        assert_eq!(kadvisk::list(&ring, k, 64, 0, &mut []).map(|_| ()), owed);
         assert_eq!(kadvisk::core(&ring, k, 64).map(|_| ()), owed);
         assert_eq!(kadvisk::largest(&ring, k, 1).map(|_| ()), owed);
         assert_eq!(kadvisk::is_maximal(&ring, k, 3).map(|_| ()), owed);
         assert_eq!(kadvisk::first_bound(&ring, k, 1, 2, 1).map(|_| ()), owed);
         assert_eq!(kadvisk::second_bound(&ring, k, 1, 2, 1).map(|_| ()), owed);
-        assert_eq!(kadvisk::change(&mut ring.clone(), k, 64, 0, 2, true, &mut []).map(|_| ()), owed);
+        assert_eq!(kadvisk::change(&mut ring.clone(), k, 64, 0, 0, 2, true, &mut []).map(|_| ()), owed);
     }
 }
