@@ -72,16 +72,16 @@ unfoldable pub slackCheck : List ℕ → ℕ → List Cause
 slackCheck g k = vertexCause (length g) ∷ slackCause k ∷ graphCauses g
 
 -- 1, 2, 3
-unfoldable pub numberCheck : List ℕ → ℕ → ℕ → List Cause
-numberCheck g k q = vertexCause (length g) ∷ slackCause k ∷ floorCause k q ∷ []
+unfoldable pub numberCheck : ℕ → ℕ → ℕ → List Cause
+numberCheck n k q = vertexCause n ∷ slackCause k ∷ floorCause k q ∷ []
 
 -- 1, 2, 3, 4, 5
 unfoldable pub floorCheck : List ℕ → ℕ → ℕ → List Cause
-floorCheck g k q = numberCheck g k q ++ graphCauses g
+floorCheck g k q = numberCheck (length g) k q ++ graphCauses g
 
 -- 1, 2, 3, 7, 4, 5
 unfoldable pub requestCheck : List ℕ → Request → List Cause
-requestCheck g ask = numberCheck g (ask .slack) (ask .floor) ++ setCause g (ask .silent) ∷ graphCauses g
+requestCheck g ask = numberCheck (length g) (ask .slack) (ask .floor) ++ setCause g (ask .silent) ∷ graphCauses g
 
 -- 1, 4, 5, 7
 unfoldable pub insideCheck : List ℕ → ℕ → List Cause

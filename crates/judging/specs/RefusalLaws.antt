@@ -139,6 +139,11 @@ above-low lo hi n a = go (leb n hi) refl ∙ ap (λ (x : Bool). not (x || ltb hi
     go true e = ap not (sym (le-ltb hi n (leb-true n hi e)))
     go false e = ap not (sym (lt-ltb hi n (leb-false n hi e)))
 
+-- numbers that pass have an accepted n first
+pub numbers-vertices : (n k q : ℕ) → firstOf (numberCheck n k q) passed ≡ passed → (1 ≤ n) × (n ≤ mostVertices)
+unfolding numberCheck vertexCause
+numbers-vertices n k q e = within-range 1 mostVertices n (passed-head _ _ e)
+
 -- ---- the table
 
 module _ (g : List ℕ) where
@@ -247,9 +252,8 @@ module _ (g : List ℕ) where
   unfolding setCause
   set-below s e = leb-false (2 ^ length g) s e
 
-  pub numbers-sized : (k q : ℕ) → firstOf (numberCheck g k q) passed ≡ passed → Sized g
-  unfolding numberCheck vertexCause
-  numbers-sized k q e = sized (passed-head _ _ e)
+  pub numbers-sized : (k q : ℕ) → firstOf (numberCheck (length g) k q) passed ≡ passed → Sized g
+  numbers-sized k q e = let r = numbers-vertices (length g) k q e in record { some = r .0; most = omega (arith, r .1) }
 
   pub floor-slack : (k q : ℕ) → firstOf (floorCheck g k q) passed ≡ passed → firstOf (slackCheck g k) passed ≡ passed
   unfolding slackCheck floorCheck numberCheck
@@ -266,7 +270,7 @@ module _ (g : List ℕ) where
   -- a request that passes has a slack and a floor that pass, and a silent set within the graph
   module _ (ask : Request) (e : firstOf (requestCheck g ask) passed ≡ passed) where
     numbers : List Cause
-    numbers = numberCheck g (ask .slack) (ask .floor)
+    numbers = numberCheck (length g) (ask .slack) (ask .floor)
 
     pub request-floor : firstOf (floorCheck g (ask .slack) (ask .floor)) passed ≡ passed
     unfolding floorCheck requestCheck numbers

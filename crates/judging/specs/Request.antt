@@ -1,7 +1,7 @@
 -- What is asked of a graph: the slack k and the floor q (document 01), and the silent vertices (document 02, card 6: stops without a recording).
 --
 --   request k q z   the request for the slack k, the floor q and the silent set z
---   recorded ask s  the members of s that are not silent
+--   recorded ask s  the members of s that are not silent (document 02: its recorded stops)
 --   asked r         the request r of the code, as definitions have it
 use Prim.Native.Nat.{ℕ}
 use Rattle.sets.specs.Set.{minus}

@@ -27,21 +27,21 @@ fn is_between(lo: usize, hi: usize, n: usize) -> bool
 }
 
 // Is n a number of vertices that is accepted?
-pub fn vertices_accepted(n: usize) -> bool
+fn vertices_accepted(n: usize) -> bool
     ensures { λ r. ⌜ r ≡ not (outside 1 mostVertices n) ⌝ }
 {
     is_between(1, MOST_VERTICES, n)
 }
 
 // Is k a slack that is accepted?
-pub fn slack_accepted(k: usize) -> bool
+fn slack_accepted(k: usize) -> bool
     ensures { λ r. ⌜ r ≡ not (outside 1 mostSlack k) ⌝ }
 {
     is_between(1, MOST_SLACK, k)
 }
 
 // Is q a floor that is accepted beside the slack k?
-pub fn floor_accepted(k: usize, q: usize) -> bool
+fn floor_accepted(k: usize, q: usize) -> bool
     requires { ⌜ (1 ≤ k) × (k ≤ mostSlack) ⌝ }
     ensures { λ r. ⌜ r ≡ not (outside (2 * k - 1) mostVertices q) ⌝ }
 {
@@ -141,10 +141,10 @@ fn check_slack(rows: &[u64], slack: usize) -> Checked
 }
 
 // Refusals 1, 2 and 3.
-fn check_numbers(rows: &[u64], slack: usize, floor: usize) -> Checked
-    ensures { λ r. ⌜ checkedReply r ≡ firstOf (numberCheck (masks (now (rows .entry))) slack floor) passed ⌝ }
+pub fn check_numbers(n: usize, slack: usize, floor: usize) -> Checked
+    ensures { λ r. ⌜ checkedReply r ≡ firstOf (numberCheck n slack floor) passed ⌝ }
 {
-    if !rows_accepted(rows) {
+    if !vertices_accepted(n) {
         return Checked::Failed(Refusal::Vertices);
     }
     if !slack_accepted(slack) {
@@ -160,7 +160,7 @@ fn check_numbers(rows: &[u64], slack: usize, floor: usize) -> Checked
 pub fn check_floor(rows: &[u64], slack: usize, floor: usize) -> Checked
     ensures { λ r. ⌜ checkedReply r ≡ firstOf (floorCheck (masks (now (rows .entry))) slack floor) passed ⌝ }
 {
-    let checked = check_numbers(rows, slack, floor);
+    let checked = check_numbers(sets::count(rows), slack, floor);
     if let Checked::Failed(f) = checked {
         return Checked::Failed(f);
     }
@@ -182,7 +182,7 @@ pub fn check_silent(rows: &[u64], silent: Set) -> Checked
 pub fn check_request(rows: &[u64], request: Request) -> Checked
     ensures { λ r. ⌜ checkedReply r ≡ firstOf (requestCheck (masks (now (rows .entry))) (asked request)) passed ⌝ }
 {
-    let checked = check_numbers(rows, request.slack, request.floor);
+    let checked = check_numbers(sets::count(rows), request.slack, request.floor);
     if let Checked::Failed(f) = checked {
         return Checked::Failed(f);
     }

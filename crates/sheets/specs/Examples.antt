@@ -6,6 +6,7 @@ use mathlib.Core.List.{List, [], _∷_}
 use Rattle.judging.specs.Request.{request}
 use Rattle.judging.specs.Refusal.{refused, answered, firstOf, outside, vertexCause, slackCause, floorCause}
 use Rattle.judging.specs.Refusal.{badRow, oneWay, lowestRow, rowCause, edgeCause, graphCauses, setCause}
+use Rattle.judging.specs.Calls.{numberCheck}
 use Rattle.sets.specs.Ranges.{from, range, all, any, first}
 use Rattle.sets.specs.Set.{bit, has}
 use Rattle.sets.specs.Graph.{row}
@@ -41,7 +42,7 @@ pub rings-read : (reading ring 5 ≡ answered 0 (sheet ringRows (request 2 3 0))
     × (reading (five (low 50 48 (low 49 51 others))) 5 ≡ refused 7 0)
     -- without line 2
     × (reading (five (low 49 50 others)) 5 ≡ refused 8 7)
-unfolding ring reading sheetCauses headingCauses bodyCauses headingCause linesCause roomCause sheetOf firstOf outside vertexCause slackCause floorCause setCause badRow oneWay lowestRow rowCause edgeCause graphCauses from range all any first bit has row adjacent between digitValue isDigit numberFrom number isLine field rightLines numbers
+unfolding ring reading sheetCauses headingCauses bodyCauses headingCause linesCause roomCause numberCheck sheetOf firstOf outside vertexCause slackCause floorCause setCause badRow oneWay lowestRow rowCause edgeCause graphCauses from range all any first bit has row adjacent between digitValue isDigit numberFrom number isLine field rightLines numbers
 rings-read = (refl, refl, refl, refl)
 
 pub ring-written : ring ≡ sheetText ringRows (request 2 3 0)

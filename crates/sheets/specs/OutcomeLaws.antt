@@ -6,7 +6,7 @@ use mathlib.Core.Path.{_≡_, refl, sym, ap, _∙_, subst}
 use mathlib.Core.List.{List, [], _∷_, _++_}
 use lib.ListN.{length, take, drop}
 use Rattle.judging.specs.Request.{Request}
-use Rattle.judging.specs.Refusal.{Reply, answered, firstOf, vertexCause, slackCause, floorCause}
+use Rattle.judging.specs.Refusal.{Reply, answered, firstOf}
 use Rattle.judging.specs.Calls.{passed, numberCheck, requestCheck}
 use Rattle.judging.specs.RefusalLaws.{first-append, first-passed, answered-value}
 use Rattle.sheets.specs.Sheet.{rowDigits, rowLength, sheetLength, sheetText, vertexField, slackField, floorField, body, Sheet, sheet, sheetOf}
@@ -22,12 +22,12 @@ use Rattle.sheets.specs.WriteLaws.{sheet-length, accepted-writes}
 module _ (t : List ℕ) (room : ℕ) {v : ℕ} {s : Sheet} (e : reading t room ≡ answered v s) where
   -- 1, 2 and 3 of line 1, 7 of line 2, 4 and 5 of the rows
   pub read-accepted : firstOf (requestCheck (s .rows) (s .request)) passed ≡ passed
-  unfolding requestCheck numberCheck sheetOf
+  unfolding requestCheck sheetOf
   read-accepted =
       let n = vertexField t in
       let passes = read-passed t room e in
       subst (λ (x : Sheet). firstOf (requestCheck (x .rows) (x .request)) passed ≡ passed) (sym (read-answer t room e))
-      (subst (λ (m : ℕ). firstOf (vertexCause m ∷ slackCause (slackField t) ∷ floorCause (slackField t) (floorField t) ∷ setCauses n (body t)) passed ≡ passed)
+      (subst (λ (m : ℕ). firstOf (numberCheck m (slackField t) (floorField t) ++ setCauses n (body t)) passed ≡ passed)
       (sym (numbers-length rowDigits n (drop rowLength (body t))))
       (first-append (fieldCauses t) (setCauses n (body t)) passed
       ∙ first-passed (fieldCauses t) (firstOf (setCauses n (body t)) passed) (passed-fields t (passed-heading t passes))

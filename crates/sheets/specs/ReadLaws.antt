@@ -11,9 +11,9 @@ use Rattle.sets.specs.RangeLaws.{true-holds}
 use Rattle.sets.specs.Words.{perSet, width, masks}
 use Rattle.sets.specs.Words.Masks.{offset-fits, lent-length, back-before}
 use Rattle.judging.specs.Request.{Request, request, asked}
-use Rattle.judging.specs.Refusal.{Reply, answered, firstOf, mostVertices, vertexCause, slackCause, floorCause}
+use Rattle.judging.specs.Refusal.{Reply, answered, firstOf}
 use Rattle.judging.specs.Calls.{passed, checkedReply, refusal}
-use Rattle.judging.specs.RefusalLaws.{first-append, first-holds, first-skips, first-passed, passed-head, within-range}
+use Rattle.judging.specs.RefusalLaws.{first-append, first-holds, first-skips, first-passed, numbers-vertices}
 use Rattle.judging.specs.CallLaws.{front-refused}
 use Rattle.judging.specs.declared.Refusal.{Refusal}
 use Rattle.judging.specs.declared.Refusal.the-variants.{Room}
@@ -65,11 +65,7 @@ module _ (t : List ℕ) (e : firstOf (headingCauses t) passed ≡ passed) where
   field-right l = record { inside = l; right = passed-line t e }
 
   pub vertices-read : {n : ℕ} → n ≡ vertexField t → (1 ≤ n) × (n ≤ width)
-  unfolding vertexCause
-  vertices-read f =
-      let after = slackCause (slackField t) ∷ floorCause (slackField t) (floorField t) ∷ [] in
-      let r = within-range 1 mostVertices (vertexField t) (passed-head (vertexCause (vertexField t)) after (passed-fields t e)) in
-      (omega arith, omega arith)
+  vertices-read f = let r = numbers-vertices (vertexField t) (slackField t) (floorField t) (passed-fields t e) in (omega arith, omega arith)
 
   -- what is below it decides
   pub body-judged : {n : ℕ} {r : Reply (Unit {0})} → n ≡ vertexField t → r ≡ firstOf (bodyCauses n (lentBody t)) passed

@@ -17,9 +17,9 @@ use mathlib.Core.List.{List, [], _∷_, _++_}
 use lib.Dec.{ltb}
 use lib.ListN.{length, drop}
 use Rattle.judging.specs.Request.{Request, request}
-use Rattle.judging.specs.Refusal.{Reply, refused, answered, Cause, cause, firstOf, mostVertices, vertexCause, slackCause, floorCause}
+use Rattle.judging.specs.Refusal.{Reply, refused, answered, Cause, cause, firstOf, mostVertices}
 use Rattle.judging.specs.Refusal.{graphCauses, setCause}
-use Rattle.judging.specs.Calls.{requestCheck}
+use Rattle.judging.specs.Calls.{numberCheck, requestCheck}
 use Rattle.sheets.specs.Digits.{digits}
 use Rattle.sheets.specs.Lines.{line, lines, isLine, field, rightLines, numbers}
 
@@ -119,7 +119,7 @@ roomCause room needed = cause (ltb room needed) 9 needed
 -- ---- reading: line 1 by 8, then 1, 2, 3, the other lines by 8, then 7 of the silent set, 4, 5, 9
 
 abbrev pub fieldCauses : List ℕ → List Cause
-fieldCauses t = vertexCause (vertexField t) ∷ slackCause (slackField t) ∷ floorCause (slackField t) (floorField t) ∷ []
+fieldCauses t = numberCheck (vertexField t) (slackField t) (floorField t)
 
 unfoldable pub headingCauses : List ℕ → List Cause
 headingCauses t = headingCause t ∷ fieldCauses t

@@ -15,7 +15,7 @@ use Rattle.sets.specs.Ranges.{all}
 use Rattle.sets.specs.RangeLaws.{true-holds, all-append, all-part}
 use Rattle.sets.specs.Graph.{row}
 use Rattle.judging.specs.Request.{Request, request}
-use Rattle.judging.specs.Refusal.{mostVertices, refused, answered, Cause, firstOf, vertexCause, slackCause, floorCause, graphCauses}
+use Rattle.judging.specs.Refusal.{mostVertices, refused, answered, Cause, firstOf, graphCauses}
 use Rattle.judging.specs.Calls.{passed, numberCheck, floorCheck, requestCheck}
 use Rattle.judging.specs.RefusalLaws.{first-append, first-holds, first-skips, first-passed, answered-passed, answered-value, answered-found}
 use Rattle.judging.specs.RefusalLaws.{passed-head, passed-tail, passed-front, passed-back}
@@ -215,9 +215,9 @@ module _ (n : ℕ) (ask : Request) (t : List ℕ) where
   -- the answer, once line 1 is right and says n, k and q
   reading-by : (room : ℕ) → n < 256 → ask .slack < 256 → ask .floor < 256
       → reading (headingText n ask ++ t) room
-      ≡ firstOf (vertexCause n ∷ slackCause (ask .slack) ∷ floorCause (ask .slack) (ask .floor) ∷ [])
+      ≡ firstOf (numberCheck n (ask .slack) (ask .floor))
       (firstOf (bodyCauses n t ++ roomCause room n ∷ []) (answered 0 (sheet (rowsIn n t) (request (ask .slack) (ask .floor) (silentIn t)))))
-  unfolding reading sheetCauses headingCauses headingCause sheetOf firstOf
+  unfolding reading sheetCauses headingCauses headingCause numberCheck sheetOf firstOf
   reading-by room hn hk hq = rw (heading-right, vertex-field hn, slack-field hk, floor-field hq, heading-body)
 
 -- what is read of the lines of z and of the rows g
@@ -293,11 +293,11 @@ former-right g =
 
 pub former-refused : (g : List ℕ) (ask : Request) (room : ℕ) → firstOf (floorCheck g (ask .slack) (ask .floor)) passed ≡ passed
     → reading (formerText g ask) room ≡ refused 8 (length g + 2)
-unfolding formerText floorCheck numberCheck bodyCauses linesCause
+unfolding formerText floorCheck bodyCauses linesCause
 former-refused g ask room e =
     let n = length g in
     let t = lines rowDigits g in
-    let fields = numberCheck g (ask .slack) (ask .floor) in
+    let fields = numberCheck n (ask .slack) (ask .floor) in
     let f = field-fits g (ask .slack) (ask .floor) e in
     reading-by n ask t room (f .0) (f .1) (f .2)
     ∙ first-passed fields _ (passed-front fields (graphCauses g) e)

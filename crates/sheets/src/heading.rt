@@ -44,17 +44,10 @@ pub fn check_heading(text: &[u8]) -> Checked
     if !lines::is_line(text, 0, HEADING_DIGITS) {
         return Checked::Failed(Refusal::Line(1));
     }
-    if !check::vertices_accepted(field(text, VERTICES_AT)) {
-        return Checked::Failed(Refusal::Vertices);
-    }
+    let n = field(text, VERTICES_AT);
     let k = field(text, SLACK_AT);
-    if !check::slack_accepted(k) {
-        return Checked::Failed(Refusal::Slack);
-    }
-    if !check::floor_accepted(k, field(text, FLOOR_AT)) {
-        return Checked::Failed(Refusal::Floor);
-    }
-    Checked::Passed
+    let q = field(text, FLOOR_AT);
+    check::check_numbers(n, k, q)
 }
 
 // Writes line 1 to the front of the text.

@@ -1,10 +1,6 @@
 -- A walk through the silent set drops each that is adjacent to at most m members of s, so that those that are adjacent to more stay.
 use lib.Dec.{leb}
 use lib.ListN.{length}
-use native.Mathlib.Omega.{arith}
-use mathlib.Core.Path.{ap, sym, _∙_}
-use lib.Bits.{bitAnd}
-use Rattle.sets.specs.Set.{size}
 use Rattle.sets.specs.Words.{mask, masks}
 use Rattle.sets.specs.WalkLaws.{walk-falls, walk-goes-on, walk-over}
 use Rattle.sets.specs.DropLaws.{Dropping, dropping-none, dropping-vertex, dropping-next}

@@ -1,4 +1,4 @@
--- One test after the other, in the order of the causes: the number of rows, the slack, the floor.
+-- One test after the other, in the order of the causes: the number of vertices, the slack, the floor.
 use Rattle.judging.specs.Refusal.{mostSlack, vertexCause, slackCause, floorCause}
 use Rattle.judging.specs.Calls.{numberCheck}
 use Rattle.judging.specs.RefusalLaws.{within-range}
@@ -9,13 +9,13 @@ use Rattle.judging.proofs.check.check_numbers.Tie as tie
 
 returns : tie.Need-returns
 unfolding numberCheck vertexCause slackCause floorCause
-returns c = test-refused _ _ (c .before .rows-accepted .ensures) (c .if1 .taken)
+returns c = test-refused _ _ (c .before .vertices-accepted .ensures) (c .if1 .taken)
 
 returns-2 : tie.Need-returns-2
 unfolding numberCheck vertexCause slackCause floorCause
 returns-2 c =
-    let rows = c .before .before in
-    test-accepted _ _ (rows .before .rows-accepted .ensures) (rows .if1 .left)
+    let vertices = c .before .before in
+    test-accepted _ _ (vertices .before .vertices-accepted .ensures) (vertices .if1 .left)
     (test-refused _ _ (c .before .slack-accepted .ensures) (c .if2 .taken))
 
 floor-accepted-requires : tie.Need-floor-accepted-requires
@@ -25,8 +25,8 @@ returns-3 : tie.Need-returns-3
 unfolding numberCheck vertexCause slackCause floorCause
 returns-3 c =
     let slack = c .before .before in
-    let rows = slack .before .before in
-    test-accepted _ _ (rows .before .rows-accepted .ensures) (rows .if1 .left)
+    let vertices = slack .before .before in
+    test-accepted _ _ (vertices .before .vertices-accepted .ensures) (vertices .if1 .left)
     (test-accepted _ _ (slack .before .slack-accepted .ensures) (slack .if2 .left)
     (test-refused _ _ (c .before .floor-accepted .ensures) (c .if3 .taken)))
 
@@ -34,8 +34,8 @@ returns-4 : tie.Need-returns-4
 unfolding numberCheck vertexCause slackCause floorCause
 returns-4 c =
     let slack = c .before .before in
-    let rows = slack .before .before in
-    test-accepted _ _ (rows .before .rows-accepted .ensures) (rows .if1 .left)
+    let vertices = slack .before .before in
+    test-accepted _ _ (vertices .before .vertices-accepted .ensures) (vertices .if1 .left)
     (test-accepted _ _ (slack .before .slack-accepted .ensures) (slack .if2 .left)
     (test-accepted _ _ (c .before .floor-accepted .ensures) (c .if3 .left) no-cause))
 
