@@ -13,11 +13,12 @@ use Rattle.judging.specs.Graph.{Valid}
 use Rattle.judging.specs.Plex.{plex}
 use Rattle.judging.specs.Request.{Request}
 use Rattle.judging.specs.Refusal.{refused, answered, firstOf}
-use Rattle.judging.specs.Refusal.{vertexCause, slackCause, floorCause, setCause, rowCause, edgeCause, graphCauses, vertexOutCause}
-use Rattle.judging.specs.Calls.{passed, numberCheck, requestCheck}
+use Rattle.judging.specs.Refusal.{vertexOutCause}
+use Rattle.judging.specs.Calls.{passed, requestCheck}
 use Rattle.lists.specs.Listing.{listing, Listed}
 use Rattle.lists.specs.ListingLaws.{listing-rising, listing-sound, listing-complete}
-use Rattle.search.specs.RoomLaws.{lacks, room-accepted, room-value, room-enough, six-accepted, six-value, six-room}
+use Rattle.search.specs.OutcomeLaws.{request-lacks-six}
+use Rattle.search.specs.RoomLaws.{lacks, lacks-append, room-accepted, room-value, room-enough, six-accepted, six-value, six-room}
 use Rattle.books.specs.Book.{Change, changedGraph, opened, changed}
 use Rattle.books.specs.Calls.{loopCause, unchangedCause, pairCauses, changeCheck, changeReply, rowsChanged, slotsChanged, Changeable}
 use Rattle.books.specs.EdgeLaws.{alike-sym, alike-same, alike-listed, changed-alike, changed-valid, back, change-back}
@@ -104,9 +105,13 @@ module _ (g : List ℕ) (ask : Request) (c : Change) where
     refused-slots = rw e refl
 
   -- number 6 comes from a change that passed its checks, and gives the exact length of the new list
+  pair-lacks-six : T (lacks 6 (pairCauses g c))
+  unfolding pairCauses loopCause unchangedCause vertexOutCause lacks
+  pair-lacks-six = tt
+
   no-six : T (lacks 6 (changeCheck g ask c))
-  unfolding changeCheck pairCauses loopCause unchangedCause vertexOutCause requestCheck numberCheck graphCauses vertexCause slackCause floorCause setCause rowCause edgeCause lacks
-  no-six = tt
+  unfolding changeCheck
+  no-six = lacks-append 6 (requestCheck g ask) (pairCauses g c) (request-lacks-six g ask) pair-lacks-six
 
   module _ (room : ℕ) {m : ℕ} (e : changeReply g ask c room ≡ refused 6 m) where
     pub six-passed : firstOf (changeCheck g ask c) passed ≡ passed

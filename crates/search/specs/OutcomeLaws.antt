@@ -59,25 +59,24 @@ module _ (g : List ℕ) (ask : Request) where
     pub slots-rising : Rising 0 (take m (slotsAfter g ask slots))
     slots-rising = subst (Rising 0) (sym slots-first) (listing-rising g ask)
 
-  -- ---- number 6
+  -- ---- number 6, which none of the request's causes has
+
+  pub request-lacks-six : T (lacks 6 (requestCheck g ask))
+  unfolding requestCheck numberCheck setCause graphCauses vertexCause slackCause floorCause rowCause edgeCause lacks
+  request-lacks-six = tt
 
   module _ (slots : List ℕ) {m : ℕ} (e : listReply g ask (length slots) ≡ refused 6 m) where
-    -- none of the request's causes has number 6
-    no-six : T (lacks 6 (requestCheck g ask))
-    unfolding requestCheck numberCheck setCause graphCauses vertexCause slackCause floorCause rowCause edgeCause lacks
-    no-six = tt
-
     pub short-accepted : firstOf (requestCheck g ask) passed ≡ passed
     unfolding listReply
-    short-accepted = six-accepted (requestCheck g ask) _ (length slots) no-six e
+    short-accepted = six-accepted (requestCheck g ask) _ (length slots) request-lacks-six e
 
     pub short-count : m ≡ length (listing g ask)
     unfolding listReply
-    short-count = six-value (requestCheck g ask) _ (length slots) no-six e
+    short-count = six-value (requestCheck g ask) _ (length slots) request-lacks-six e
 
     pub short-room : length slots < m
     unfolding listReply
-    short-room = six-room (requestCheck g ask) (length (listing g ask)) (length slots) no-six e
+    short-room = six-room (requestCheck g ask) (length (listing g ask)) (length slots) request-lacks-six e
 
     pub short-slots : slotsAfter g ask slots ≡ replicate (length slots) 0
     short-slots = slots-short g ask short-accepted slots (omega (arith, short-count, short-room))

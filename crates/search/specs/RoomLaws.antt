@@ -10,7 +10,7 @@ use mathlib.Core.Bool.{Bool, true, false, not, _&&_, cond}
 use mathlib.Core.List.{List, [], _∷_, _++_}
 use lib.Dec.{T, eqb, eqb-refl, T-not}
 use borrow.Author.Tests.{lt-ltb, le-ltb, ltb-false}
-use Rattle.sets.specs.RangeLaws.{and-left, and-right}
+use Rattle.sets.specs.RangeLaws.{and-left, and-right, both}
 use Rattle.judging.specs.Refusal.{Reply, refused, answered, Cause, firstOf}
 use Rattle.judging.specs.Calls.{passed}
 use Rattle.judging.specs.RefusalLaws.{first-append, first-holds, first-skips, first-refused, first-passed}
@@ -20,6 +20,13 @@ use Rattle.search.specs.Calls.{slotsCause, roomReply}
 unfoldable pub lacks : ℕ → List Cause → Bool
 lacks n [] = true
 lacks n (c ∷ cs) = not (eqb (c .number) n) && lacks n cs
+
+pub lacks-append : (n : ℕ) (xs ys : List Cause) → T (lacks n xs) → T (lacks n ys) → T (lacks n (xs ++ ys))
+unfolding lacks
+lacks-append n [] ys a b = b
+lacks-append n (c ∷ xs) ys a b =
+    let other = not (eqb (c .number) n) in
+    both other (lacks n (xs ++ ys)) (and-left other (lacks n xs) a) (lacks-append n xs ys (and-right other (lacks n xs) a) b)
 
 -- a refusal whose number is none of theirs comes from behind them
 other-number : {A : Type 0} (cs : List Cause) (r : Reply A) {n v : ℕ} → T (lacks n cs) → firstOf cs r ≡ refused n v → firstOf cs passed ≡ passed

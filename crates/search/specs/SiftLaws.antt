@@ -64,7 +64,8 @@ module _ {g : List ℕ} {k q s c v d t : ℕ} (h : Siftable g k q s c v d t) whe
                 let out : bit d v ≡ 0 = omega (arith, h .part v, without-same c v) in
                 let other : v ≢ u = λ w. omega (arith, m, out, ap (bit d) w) in
                 rw (← same) (pair-row-in (f .listed) (h .trimmable .valid) (with s v) a q (f .lower)
-                (rw (e, y) (λ w. omega (arith, bit-or (with s v) t w))) (counts x f) (counted .floor) d v u (in-of-sub (with s v) x v (f .lower) (with-same s v)) i other m);
+                (rw (e, y) (λ w. omega (arith, bit-or (with s v) t w))) (counts x f) (counted .floor) d v u
+                (in-of-sub (with s v) x v (f .lower) (with-same s v)) i other m);
           })
 
       pub sift-beside : Beside g ask s c v d → Beside g ask s c v r

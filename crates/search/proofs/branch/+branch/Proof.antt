@@ -285,5 +285,5 @@ pub +branch-spec : {M : Type 1} → statement M
     close μ-branch (λ t. branch-lts.spec (calls t) (branch-at t) branch.Post
     (λ c κs. tt) (is-low-requires t) (returns t) (survey-requires t) (leaf-requires t) (λ c. search needs) (returns-2 t)
     (is-extendable-requires t) (returns-3 t) (among-requires t) (λ c κs. tt) (returns-4 t) (pick-requires t) (indicator-requires t) (add-next t)
-    (without-requires t) (beside-requires t) (λ c κs. tt) (sift-requires t) (branch-requires t) (is-bounded-requires t) (λ c. search needs) (returns-5 t) (with-requires t)
-    (λ c κs. tt) (branch-requires-2 t) (λ c. search needs) (returns-6 t))
+    (without-requires t) (beside-requires t) (λ c κs. tt) (sift-requires t) (branch-requires t) (is-bounded-requires t) (λ c. search needs)
+    (returns-5 t) (with-requires t) (λ c κs. tt) (branch-requires-2 t) (λ c. search needs) (returns-6 t))
