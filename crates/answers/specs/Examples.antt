@@ -13,7 +13,7 @@ use Rattle.judging.specs.Refusal.{badRow, oneWay, lowestRow, rowCause, edgeCaus
 use Rattle.judging.specs.Calls.{numberCheck, requestCheck}
 use Rattle.sheets.specs.Digits.{between, digitValue, isDigit, digitByte, digits, numberFrom, number}
 use Rattle.sheets.specs.Lines.{line, lines, isLine, field, rightLines, numbers}
-use Rattle.sheets.specs.Sheet.{sheetOf, headingCause, linesCause, roomCause, headingCauses, bodyCauses, sheetCauses, reading}
+use Rattle.sheets.specs.Sheet.{sheetOf, headingCause, linesCause, isolated, isolatedCause, roomCause, headingCauses, bodyCauses, sheetCauses, reading}
 use Rattle.answers.specs.Output.{decimals, listText, refusalText}
 use Rattle.sheets.specs.Examples.{low, ring}
 use Rattle.lists.specs.Listing.{listed, listing}
@@ -25,12 +25,12 @@ unfoldable pub ringPrinted : List ℕ
 ringPrinted = low 48 53 (low 48 55 (low 48 69 (low 49 51 (low 49 57 (low 49 67 [])))))
 
 pub ring-answered : answerText ring 4096 ≡ ringPrinted
-unfolding ring ringPrinted answerText reading sheetCauses headingCauses bodyCauses headingCause linesCause roomCause sheetOf firstOf outside vertexCause slackCause floorCause badRow oneWay lowestRow rowCause edgeCause graphCauses setCause numberCheck requestCheck slotsCause listReply listing listed maximal plex degree subset minus members from range all any first keep bit has row adjacent between digitValue isDigit digitByte digits numberFrom number line lines isLine field rightLines numbers listText ones
+unfolding ring ringPrinted answerText reading sheetCauses headingCauses bodyCauses headingCause linesCause isolated isolatedCause roomCause sheetOf firstOf outside vertexCause slackCause floorCause badRow oneWay lowestRow rowCause edgeCause graphCauses setCause numberCheck requestCheck slotsCause listReply listing listed maximal plex degree subset minus members from range all any first keep bit has row adjacent between digitValue isDigit digitByte digits numberFrom number line lines isLine field rightLines numbers listText ones
 ring-answered = refl
 
 -- with four slots: R, 06, a blank, and the number of the masks
 pub ring-refused : answerText ring 4 ≡ 82 ∷ 48 ∷ 54 ∷ 32 ∷ low 48 53 []
-unfolding ring answerText reading sheetCauses headingCauses bodyCauses headingCause linesCause roomCause sheetOf firstOf outside vertexCause slackCause floorCause badRow oneWay lowestRow rowCause edgeCause graphCauses setCause numberCheck requestCheck slotsCause listReply listing listed maximal plex degree subset minus members from range all any first keep bit has row adjacent between digitValue isDigit digitByte digits numberFrom number line isLine field rightLines numbers decimals refusalText ones
+unfolding ring answerText reading sheetCauses headingCauses bodyCauses headingCause linesCause isolated isolatedCause roomCause sheetOf firstOf outside vertexCause slackCause floorCause badRow oneWay lowestRow rowCause edgeCause graphCauses setCause numberCheck requestCheck slotsCause listReply listing listed maximal plex degree subset minus members from range all any first keep bit has row adjacent between digitValue isDigit digitByte digits numberFrom number line isLine field rightLines numbers decimals refusalText ones
 ring-refused = refl
 
 -- document 01: empty text is 8, line 1

@@ -13,7 +13,7 @@ use Rattle.judging.specs.Setting.{Sized, LowRows}
 use Rattle.judging.specs.RefusalLaws.{first-holds, first-skips, first-append, first-refused, first-passed, rows-below}
 use Rattle.judging.specs.declared.Refusal.{Refusal}
 use Rattle.judging.specs.declared.Refusal.the-variants.{Vertices, Slack, Floor, Row, OneWay, Slots, Outside, Line, Room, Bound}
-use Rattle.judging.specs.declared.Refusal.the-variants.{Forced, Loop, Unchanged}
+use Rattle.judging.specs.declared.Refusal.the-variants.{Forced, Loop, Unchanged, Isolated}
 use Rattle.judging.specs.declared.Checked.{Checked}
 use Rattle.judging.specs.declared.Checked.the-variants.{Passed, Failed}
 
@@ -33,6 +33,7 @@ refusal-number Bound = omega arith
 refusal-number Forced = omega arith
 refusal-number Loop = omega arith
 refusal-number Unchanged = omega arith
+refusal-number (Isolated a) = omega arith
 
 -- ---- the outcome of a check, whatever the call then answers
 
@@ -83,10 +84,10 @@ module _ (c : Cause) (cs : List Cause) {b : Bool} (h : b ≡ not (c .holds)) whe
 
 -- ---- the table: a is the lowest bad row, and b the lowest row with a one-way link
 
-lowest-holds : (p : ℕ → Bool) (n : ℕ) {a : ℕ} → a ≡ lowestRow p n → a < n → ltb (lowestRow p n) n ≡ true
+pub lowest-holds : (p : ℕ → Bool) (n : ℕ) {a : ℕ} → a ≡ lowestRow p n → a < n → ltb (lowestRow p n) n ≡ true
 lowest-holds p n e l = lt-ltb (lowestRow p n) n (omega arith)
 
-lowest-none : (p : ℕ → Bool) (n : ℕ) {a : ℕ} → a ≡ lowestRow p n → n ≤ a → ltb (lowestRow p n) n ≡ false
+pub lowest-none : (p : ℕ → Bool) (n : ℕ) {a : ℕ} → a ≡ lowestRow p n → n ≤ a → ltb (lowestRow p n) n ≡ false
 lowest-none p n e l = le-ltb (lowestRow p n) n (omega arith)
 
 module _ (g : List ℕ) {a : ℕ} (e : a ≡ lowestRow (badRow g) (length g)) where

@@ -13,7 +13,7 @@ use Rattle.judging.specs.Request.{Request}
 use Rattle.judging.specs.Refusal.{Reply, refused, answered, Cause, firstOf, vertexCause, slackCause, floorCause, graphCauses, setCause}
 use Rattle.judging.specs.declared.Refusal.{Refusal}
 use Rattle.judging.specs.declared.Refusal.the-variants.{Vertices, Slack, Floor, Row, OneWay, Slots, Outside, Line, Room, Bound}
-use Rattle.judging.specs.declared.Refusal.the-variants.{Forced, Loop, Unchanged}
+use Rattle.judging.specs.declared.Refusal.the-variants.{Forced, Loop, Unchanged, Isolated}
 use Rattle.judging.specs.declared.Checked.{Checked}
 use Rattle.judging.specs.declared.Checked.the-variants.{Passed, Failed}
 use Rattle.judging.specs.declared.LoosenessFound.{LoosenessFound}
@@ -35,6 +35,7 @@ numberOf Bound = 10
 numberOf Forced = 11
 numberOf Loop = 12
 numberOf Unchanged = 13
+numberOf (Isolated a) = 14
 
 abbrev pub valueOf : Refusal → ℕ
 valueOf Vertices = 0
@@ -50,6 +51,7 @@ valueOf Bound = 0
 valueOf Forced = 0
 valueOf Loop = 0
 valueOf Unchanged = 0
+valueOf (Isolated a) = a
 
 abbrev pub refusal : {A : Type 0} → Refusal → Reply A
 refusal f = refused (numberOf f) (valueOf f)

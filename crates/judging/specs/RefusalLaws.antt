@@ -147,7 +147,7 @@ numbers-vertices n k q e = within-range 1 mostVertices n (passed-head _ _ e)
 -- ---- the table
 
 module _ (g : List ℕ) where
-  no-row : (p : ℕ → Bool) → ltb (lowestRow p (length g)) (length g) ≡ false → (a : ℕ) → a < length g → T (p a) → ⊥
+  pub no-row : (p : ℕ → Bool) → ltb (lowestRow p (length g)) (length g) ≡ false → (a : ℕ) → a < length g → T (p a) → ⊥
   unfolding lowestRow
   no-row p h a l t =
       first-none p (length g) (range (length g)) (range-mem (length g))

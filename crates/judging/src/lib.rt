@@ -24,6 +24,7 @@ pub enum Refusal {
     Forced,
     Loop,
     Unchanged,
+    Isolated(usize),
 }
 
 // The outcome of a check of the input.
@@ -70,6 +71,7 @@ pub fn number(refusal: Refusal) -> usize
         Refusal::Forced => 11,
         Refusal::Loop => 12,
         Refusal::Unchanged => 13,
+        Refusal::Isolated(_) => 14,
     }
 }
 
@@ -83,6 +85,7 @@ pub fn value(refusal: Refusal) -> usize
         Refusal::Slots(m) => m,
         Refusal::Line(l) => l,
         Refusal::Room(n) => n,
+        Refusal::Isolated(a) => a,
         Refusal::Vertices => 0,
         Refusal::Slack => 0,
         Refusal::Floor => 0,

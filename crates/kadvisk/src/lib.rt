@@ -210,7 +210,7 @@ pub extern "C" fn kadvisk_list_with(
 }
 
 // Reads the sheet in the text into the first of the rows; later rows keep their contents.
-// Refusals: 8 at line 1, 1, 2, 3, 8, 7, 4, 5, 9, in this order; each leaves every row as it was.
+// Refusals: 8 at line 1, 1, 2, 3, 8, 7, 4, 5, 14, 9, in this order; each leaves every row as it was.
 #[no_mangle]
 pub extern "C" fn kadvisk_read_sheet(text: &[u8], rows: &mut [u64]) -> ReadOutcome
     ensures { λ r. ⌜ ReadSheetOutcome (now (text .entry)) (masks (now (rows .entry))) (masks (now (rows .exit))) r ⌝ }
@@ -220,7 +220,7 @@ pub extern "C" fn kadvisk_read_sheet(text: &[u8], rows: &mut [u64]) -> ReadOutco
 }
 
 // Writes the sheet of the graph and the request to the front of the text; the bytes beyond it keep theirs. Value: its length, 24 + 17n.
-// Refusals: 1, 2, 3, 7, 4, 5, 9, in this order; each leaves the whole text as it was.
+// Refusals: 1, 2, 3, 7, 4, 5, 14, 9, in this order; each leaves the whole text as it was.
 #[no_mangle]
 pub extern "C" fn kadvisk_write_sheet(
     rows: &[u64],

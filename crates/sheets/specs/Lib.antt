@@ -8,6 +8,7 @@ pub mod OverLaws
 pub mod DigitLaws
 pub mod LineLaws
 pub mod SheetLaws
+pub mod IsolatedLaws
 pub mod HeadingLaws
 pub mod BodyLaws
 pub mod ReadLaws

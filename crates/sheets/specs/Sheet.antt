@@ -1,4 +1,4 @@
--- Sheets (document 01, with line 2 of document 02, card 6): the text of a graph with a request, and the reading of any bytes as one.
+-- Sheets (document 01, with line 2 of document 02, card 6, and refusal 14 of card 7): the text of a graph with a request, and the reading of any bytes as one.
 --
 --   headingText n ask    line 1
 --   sheetText g ask      the sheet of the graph g with the request ask
@@ -7,18 +7,21 @@
 --   vertexField t, ..    what line 1 of any text t says; body t is what stands below it
 --   silentIn, rowsIn     what it says there: the silent set in line 2, and the rows below that
 --   requestIn t          what lines 1 and 2 of the text t ask
+--   isolated g a         row a of the graph g is 0; Linked g says that every vertex has a neighbour
 --   Sheet                what a sheet says: the rows of the graph, and the request
 --   reading t room       what reading the text t into room rows answers, by document 01's order for reading
 --   writing g ask room   what writing that sheet into room bytes answers
 --   rowsAfter, textAfter what the lent rows or the lent text then hold
-use Prim.Native.Nat.{ℕ, _+_, _*_, _/_}
+use Prim.Native.Nat.{ℕ, _+_, _*_, _/_, _<_}
 use mathlib.Core.Bool.{Bool, not, _||_}
 use mathlib.Core.List.{List, [], _∷_, _++_}
-use lib.Dec.{ltb}
+use lib.Dec.{T, eqb, ltb}
 use lib.ListN.{length, drop}
+use Rattle.sets.specs.Graph.{row}
+use Rattle.judging.specs.Graph.{adjacent}
 use Rattle.judging.specs.Request.{Request, request}
 use Rattle.judging.specs.Refusal.{Reply, refused, answered, Cause, cause, firstOf, mostVertices}
-use Rattle.judging.specs.Refusal.{graphCauses, setCause}
+use Rattle.judging.specs.Refusal.{lowestRow, graphCauses, setCause}
 use Rattle.judging.specs.Calls.{numberCheck, requestCheck}
 use Rattle.sheets.specs.Digits.{digits}
 use Rattle.sheets.specs.Lines.{line, lines, isLine, field, rightLines, numbers}
@@ -112,11 +115,22 @@ headingCause t = lineCause (not (isLine headingDigits t)) 1
 unfoldable pub linesCause : ℕ → List ℕ → Cause
 linesCause m b = let a = rightLines rowDigits m b in lineCause (ltb a m || ltb (m * rowLength) (length b)) (a + 2)
 
+-- row a is 0 (document 02: nobody linked the stop)
+unfoldable pub isolated : List ℕ → ℕ → Bool
+isolated g a = eqb (row g a) 0
+
+-- every vertex has a neighbour
+abbrev pub Linked : List ℕ → Type 0
+Linked g = (a : ℕ) → a < length g → (b : ℕ) × (b < length g) × T (adjacent g a b)
+
+unfoldable pub isolatedCause : List ℕ → Cause
+isolatedCause g = let a = lowestRow (isolated g) (length g) in cause (ltb a (length g)) 14 a
+
 -- a lent buffer of the length room is too short
 unfoldable pub roomCause : ℕ → ℕ → Cause
 roomCause room needed = cause (ltb room needed) 9 needed
 
--- ---- reading: line 1 by 8, then 1, 2, 3, the other lines by 8, then 7 of the silent set, 4, 5, 9
+-- ---- reading: line 1 by 8, then 1, 2, 3, the other lines by 8, then 7 of the silent set, 4, 5, 14, 9
 
 abbrev pub fieldCauses : List ℕ → List Cause
 fieldCauses t = numberCheck (vertexField t) (slackField t) (floorField t)
@@ -126,7 +140,7 @@ headingCauses t = headingCause t ∷ fieldCauses t
 
 -- the silent set, and then the rows
 abbrev pub setCauses : ℕ → List ℕ → List Cause
-setCauses n b = setCause (rowsIn n b) (silentIn b) ∷ graphCauses (rowsIn n b)
+setCauses n b = let g = rowsIn n b in setCause g (silentIn b) ∷ graphCauses g ++ isolatedCause g ∷ []
 
 -- line 2 and n rows: row a is line a + 3, and bytes after the last one are line n + 3
 unfoldable pub bodyCauses : ℕ → List ℕ → List Cause
@@ -138,12 +152,15 @@ sheetCauses t = headingCauses t ++ bodyCauses (vertexField t) (body t)
 unfoldable pub reading : List ℕ → ℕ → Reply Sheet
 reading t room = firstOf (sheetCauses t ++ roomCause room (vertexField t) ∷ []) (answered 0 (sheetOf t))
 
--- ---- writing: 1, 2, 3, 7, 4, 5, 9
+-- ---- writing: 1, 2, 3, 7, 4, 5, 14, 9
+
+unfoldable pub sheetCheck : List ℕ → Request → List Cause
+sheetCheck g ask = requestCheck g ask ++ isolatedCause g ∷ []
 
 unfoldable pub writing : List ℕ → Request → ℕ → Reply (Unit {0})
 writing g ask room =
     let needed = sheetLength (length g) in
-    firstOf (requestCheck g ask ++ roomCause room needed ∷ []) (answered needed tt)
+    firstOf (sheetCheck g ask ++ roomCause room needed ∷ []) (answered needed tt)
 
 -- ---- the lent buffers: a refusal leaves them, and what lies beyond a success is kept
 

@@ -15,7 +15,7 @@ use Rattle.sets.specs.Ranges.{all}
 use Rattle.sets.specs.RangeLaws.{true-holds, all-append, all-part}
 use Rattle.sets.specs.Graph.{row}
 use Rattle.judging.specs.Request.{Request, request}
-use Rattle.judging.specs.Refusal.{mostVertices, refused, answered, Cause, firstOf, graphCauses}
+use Rattle.judging.specs.Refusal.{mostVertices, Reply, refused, answered, Cause, firstOf, graphCauses}
 use Rattle.judging.specs.Calls.{passed, numberCheck, floorCheck, requestCheck}
 use Rattle.judging.specs.RefusalLaws.{first-append, first-holds, first-skips, first-passed, answered-passed, answered-value, answered-found}
 use Rattle.judging.specs.RefusalLaws.{passed-head, passed-tail, passed-front, passed-back}
@@ -25,7 +25,8 @@ use Rattle.sheets.specs.Digits.{isDigit, digits, number}
 use Rattle.sheets.specs.Lines.{newline, line, lines, isLine, field, rightLines, numbers}
 use Rattle.sheets.specs.Sheet.{headingDigits, rowDigits, rowLength, sheetLength, headingText, sheetText, formerText}
 use Rattle.sheets.specs.Sheet.{vertexField, slackField, floorField, body, silentIn, rowsIn, requestIn, Sheet, sheet, sheetOf}
-use Rattle.sheets.specs.Sheet.{headingCause, linesCause, roomCause, fieldCauses, headingCauses, setCauses, bodyCauses, sheetCauses, reading, writing}
+use Rattle.sheets.specs.Sheet.{headingCause, linesCause, isolatedCause, roomCause, fieldCauses, headingCauses, setCauses, bodyCauses, sheetCauses}
+use Rattle.sheets.specs.Sheet.{reading, sheetCheck, writing}
 use Rattle.sheets.specs.DigitLaws.{digits-length, all-digits, number-digits, digits-number}
 use Rattle.sheets.specs.LineLaws.{line-length, line-drop, line-right, right-digits, right-fits, right-line, right-lines, right-most}
 use Rattle.sheets.specs.LineLaws.{lines-length, lines-right, lines-numbers, numbers-length}
@@ -241,8 +242,8 @@ module _ (z : ℕ) (g : List ℕ) where
 
 pub reads-written : (g : List ℕ) (ask : Request) (room : ℕ) → length g < 256 → ask .slack < 256 → ask .floor < 256
     → ask .silent < 16 ^ rowDigits → ((a : ℕ) → a < length g → row g a < 16 ^ rowDigits)
-    → reading (sheetText g ask) room ≡ firstOf (requestCheck g ask ++ roomCause room (length g) ∷ []) (answered 0 (sheet g ask))
-unfolding sheetText requestCheck numberCheck bodyCauses firstOf row
+    → reading (sheetText g ask) room ≡ firstOf (sheetCheck g ask ++ roomCause room (length g) ∷ []) (answered 0 (sheet g ask))
+unfolding sheetText sheetCheck requestCheck numberCheck graphCauses bodyCauses firstOf row
 reads-written g ask room hn hk hq hs low =
     let t = lines rowDigits (ask .silent ∷ g) in
     let both = written-sets (ask .silent) g hs low in
@@ -261,27 +262,57 @@ module _ (g : List ℕ) (k q : ℕ) (e : firstOf (floorCheck g k q) passed ≡ p
       let q-in = floor-accepted g k q e in
       (omega arith, omega arith, omega arith)
 
-pub accepted-back : (g : List ℕ) (ask : Request) (room : ℕ) → firstOf (requestCheck g ask) passed ≡ passed → length g ≤ room
-    → reading (sheetText g ask) room ≡ answered 0 (sheet g ask)
-unfolding roomCause firstOf
-accepted-back g ask room e l =
-    let k = ask .slack in
-    let floor = request-floor g ask e in
-    let f = field-fits g k (ask .floor) floor in
-    let checked = slack-graph g k (floor-slack g k (ask .floor) floor) in
-    let most : 2 ^ length g ≤ 2 ^ mostVertices = pow-mono {i = length g} {j = mostVertices} (vertices-accepted g checked .1) in
-    reads-written g ask room (f .0) (f .1) (f .2) (lt-of-lt-of-le (silent-accepted g ask e) most)
-    (λ a h. lt-of-lt-of-le (graph-checked g checked .low a h) most)
-    ∙ first-append (requestCheck g ask) (roomCause room (length g) ∷ []) (answered 0 (sheet g ask))
-    ∙ first-passed (requestCheck g ask) (firstOf (roomCause room (length g) ∷ []) (answered 0 (sheet g ask))) e
-    ∙ first-skips (roomCause room (length g)) [] (answered 0 (sheet g ask)) (le-ltb room (length g) l)
+module _ (g : List ℕ) (ask : Request) (e : firstOf (requestCheck g ask) passed ≡ passed) where
+  -- what is left of the causes: 14, and one behind it
+  after-request : {A : Type 0} (c : Cause) (r : Reply A) → firstOf (sheetCheck g ask ++ c ∷ []) r ≡ firstOf (isolatedCause g ∷ c ∷ []) r
+  unfolding sheetCheck firstOf
+  after-request c r =
+      first-append (requestCheck g ask ++ isolatedCause g ∷ []) (c ∷ []) r
+      ∙ first-append (requestCheck g ask) (isolatedCause g ∷ []) (firstOf (c ∷ []) r)
+      ∙ first-passed (requestCheck g ask) (firstOf (isolatedCause g ∷ c ∷ []) r) e
+
+  pub request-reading : (room : ℕ) → reading (sheetText g ask) room ≡ firstOf (isolatedCause g ∷ roomCause room (length g) ∷ []) (answered 0 (sheet g ask))
+  request-reading room =
+      let k = ask .slack in
+      let floor = request-floor g ask e in
+      let f = field-fits g k (ask .floor) floor in
+      let checked = slack-graph g k (floor-slack g k (ask .floor) floor) in
+      let most : 2 ^ length g ≤ 2 ^ mostVertices = pow-mono {i = length g} {j = mostVertices} (vertices-accepted g checked .1) in
+      reads-written g ask room (f .0) (f .1) (f .2) (lt-of-lt-of-le (silent-accepted g ask e) most)
+      (λ a h. lt-of-lt-of-le (graph-checked g checked .low a h) most)
+      ∙ after-request (roomCause room (length g)) (answered 0 (sheet g ask))
+
+  pub request-writing : (bytes : ℕ)
+      → writing g ask bytes ≡ firstOf (isolatedCause g ∷ roomCause bytes (sheetLength (length g)) ∷ []) (answered (sheetLength (length g)) tt)
+  unfolding writing
+  request-writing bytes = after-request (roomCause bytes (sheetLength (length g))) (answered (sheetLength (length g)) tt)
+
+-- what is written passed: the request, and 14
+module _ (g : List ℕ) (ask : Request) (e : firstOf (sheetCheck g ask) passed ≡ passed) where
+  pub passed-request : firstOf (requestCheck g ask) passed ≡ passed
+  unfolding sheetCheck
+  passed-request = passed-front (requestCheck g ask) (isolatedCause g ∷ []) e
+
+  pub passed-isolated : isolatedCause g .holds ≡ false
+  unfolding sheetCheck
+  passed-isolated = passed-head _ _ (passed-back (requestCheck g ask) (isolatedCause g ∷ []) e)
+
+  pub passed-reads : (room : ℕ) → length g ≤ room → reading (sheetText g ask) room ≡ answered 0 (sheet g ask)
+  unfolding roomCause firstOf
+  passed-reads room l =
+      request-reading g ask passed-request room
+      ∙ first-skips (isolatedCause g) (roomCause room (length g) ∷ []) (answered 0 (sheet g ask)) passed-isolated
+      ∙ first-skips (roomCause room (length g)) [] (answered 0 (sheet g ask)) (le-ltb room (length g) l)
+
+pub written-check : (g : List ℕ) (ask : Request) (bytes v : ℕ) → writing g ask bytes ≡ answered v tt → firstOf (sheetCheck g ask) passed ≡ passed
+unfolding writing
+written-check g ask bytes v e =
+    let needed = roomCause bytes (sheetLength (length g)) ∷ [] in
+    passed-front (sheetCheck g ask) needed (answered-passed (sheetCheck g ask ++ needed) (sheetLength (length g)) v tt tt e)
 
 pub written-back : (g : List ℕ) (ask : Request) (bytes rows v : ℕ) → writing g ask bytes ≡ answered v tt → length g ≤ rows
     → reading (sheetText g ask) rows ≡ answered 0 (sheet g ask)
-unfolding writing
-written-back g ask bytes rows v e l =
-    let needed = roomCause bytes (sheetLength (length g)) ∷ [] in
-    accepted-back g ask rows (passed-front (requestCheck g ask) needed (answered-passed (requestCheck g ask ++ needed) (sheetLength (length g)) v tt tt e)) l
+written-back g ask bytes rows v e l = passed-reads g ask (written-check g ask bytes v e) rows l
 
 -- ---- a good sheet without line 2 is refused at the line behind its last one, whatever the room (document 02)
 

@@ -9,7 +9,7 @@ use lib.ListN.{length, take, drop, length-append, length-drop}
 use Rattle.sets.specs.Words.{width}
 use Rattle.judging.specs.Request.{Request}
 use Rattle.judging.specs.Refusal.{Reply, answered, firstOf}
-use Rattle.judging.specs.Calls.{passed, checkedReply, requestCheck, refusal}
+use Rattle.judging.specs.Calls.{passed, checkedReply, refusal}
 use Rattle.judging.specs.RefusalLaws.{first-append, first-holds, first-skips, first-passed, graph-sized, slack-graph, request-slack}
 use Rattle.judging.specs.CallLaws.{check-failed}
 use Rattle.judging.specs.declared.Refusal.{Refusal}
@@ -17,12 +17,12 @@ use Rattle.judging.specs.declared.Refusal.the-variants.{Room}
 use Rattle.judging.specs.declared.Checked.{Checked}
 use Rattle.judging.specs.declared.Checked.the-variants.{Failed}
 use Rattle.sheets.specs.Lines.{lines}
-use Rattle.sheets.specs.Sheet.{headingLength, rowDigits, sheetLength, headingText, sheetText, roomCause, writing, over, textAfter}
+use Rattle.sheets.specs.Sheet.{headingLength, rowDigits, sheetLength, headingText, sheetText, roomCause, sheetCheck, writing, over, textAfter}
 use Rattle.sheets.specs.Calls.{WroteSheet}
 use Rattle.sheets.specs.declared.SheetWritten.the-variants.{Written, Refused}
 use Rattle.sheets.specs.OverLaws.{over-both}
 use Rattle.sheets.specs.LineLaws.{lines-length}
-use Rattle.sheets.specs.SheetLaws.{heading-length}
+use Rattle.sheets.specs.SheetLaws.{heading-length, passed-request}
 
 pub sheet-length : (g : List ℕ) (ask : Request) → length (sheetText g ask) ≡ sheetLength (length g)
 unfolding sheetText
@@ -39,28 +39,28 @@ below-fits m u l = omega (arith, ap length (part-to-end u headingLength), length
 abbrev fitting : ℕ → ℕ → Reply (Unit {0})
 fitting bytes n = firstOf (roomCause bytes (sheetLength n) ∷ []) (answered (sheetLength n) tt)
 
--- the room is looked at after the request
-writing-rest : (g : List ℕ) (ask : Request) (bytes : ℕ) → writing g ask bytes ≡ firstOf (requestCheck g ask) (fitting bytes (length g))
+-- the room is looked at after all else
+writing-rest : (g : List ℕ) (ask : Request) (bytes : ℕ) → writing g ask bytes ≡ firstOf (sheetCheck g ask) (fitting bytes (length g))
 unfolding writing
-writing-rest g ask bytes = first-append (requestCheck g ask) (roomCause bytes (sheetLength (length g)) ∷ []) (answered (sheetLength (length g)) tt)
+writing-rest g ask bytes = first-append (sheetCheck g ask) (roomCause bytes (sheetLength (length g)) ∷ []) (answered (sheetLength (length g)) tt)
 
 not-written : {g : List ℕ} {ask : Request} {t : List ℕ} {f : Refusal} → writing g ask (length t) ≡ refusal f → WroteSheet g ask t t (Refused f)
 not-written {g} {ask} {t} e = record { reply = sym e; text = sym (ap (λ (x : Reply (Unit {0})). textAfter x (sheetText g ask) t) e) }
 
 pub write-refused : {g : List ℕ} {ask : Request} {t : List ℕ} {r : Checked} {f : Refusal} → r ≡ Failed f
-    → checkedReply r ≡ firstOf (requestCheck g ask) passed → WroteSheet g ask t t (Refused f)
+    → checkedReply r ≡ firstOf (sheetCheck g ask) passed → WroteSheet g ask t t (Refused f)
 write-refused {g} {ask} {t} {r} {f} p e =
-    not-written (writing-rest g ask (length t) ∙ sym (check-failed (requestCheck g ask) r e f (fitting (length t) (length g)) p))
+    not-written (writing-rest g ask (length t) ∙ sym (check-failed (sheetCheck g ask) r e f (fitting (length t) (length g)) p))
 
--- ---- once the request has passed
+-- ---- once the request and the rows have passed
 
-module _ (g : List ℕ) (ask : Request) (e : firstOf (requestCheck g ask) passed ≡ passed) where
+module _ (g : List ℕ) (ask : Request) (e : firstOf (sheetCheck g ask) passed ≡ passed) where
   pub graph-fits : length g ≤ width
-  graph-fits = graph-sized g (slack-graph g (ask .slack) (request-slack g ask e)) .most
+  graph-fits = graph-sized g (slack-graph g (ask .slack) (request-slack g ask (passed-request g ask e))) .most
 
   room-left : (bytes : ℕ) {n : ℕ} → n ≡ length g → writing g ask bytes ≡ fitting bytes n
   room-left bytes c =
-      writing-rest g ask bytes ∙ first-passed (requestCheck g ask) (fitting bytes (length g)) e ∙ ap (fitting bytes) (sym c)
+      writing-rest g ask bytes ∙ first-passed (sheetCheck g ask) (fitting bytes (length g)) e ∙ ap (fitting bytes) (sym c)
 
   -- it is written where there is room
   pub accepted-writes : (bytes : ℕ) {n : ℕ} → n ≡ length g → sheetLength n ≤ bytes → writing g ask bytes ≡ answered (sheetLength n) tt

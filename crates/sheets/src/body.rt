@@ -9,6 +9,7 @@ ghost use Rattle.judging.specs.Calls.{passed, checkedReply};
 ghost use Rattle.sheets.specs.Lines.{lines, field, rightLines};
 ghost use Rattle.sheets.specs.Sheet.{rowDigits, rowLength, silentIn, rowsIn, bodyCauses, over};
 ghost use Rattle.sheets.specs.Setting.{SetLine, BodyLines};
+use crate::isolated;
 use crate::lines;
 use judging::Checked;
 use judging::Refusal;
@@ -59,7 +60,7 @@ pub fn store_rows(text: &[u8], rows: &mut [u64])
     }
 }
 
-// Judges the lines of the silent set and of n rows without storing a row. Refusals: 8, 7, 4, 5.
+// Judges the lines of the silent set and of n rows without storing a row. Refusals: 8, 7, 4, 5, 14.
 pub fn check_body(text: &[u8], n: usize) -> Checked
     requires { ⌜ (1 ≤ n) × (n ≤ width) ⌝ }
     ensures { λ r. ⌜ checkedReply r ≡ firstOf (bodyCauses n (now (text .entry))) passed ⌝ }
@@ -75,7 +76,8 @@ pub fn check_body(text: &[u8], n: usize) -> Checked
     let mut table = [0u64; sets::TABLE];
     let end = sets::offset(&table, n);
     store_rows(text, &mut table[..end]);
-    check::check_silent(&table[..end], silent(text))
+    let rows = &table[..end];
+    isolated::then_isolated(check::check_silent(rows, silent(text)), rows)
 }
 
 // Writes the silent set and then each row on a line, to the front of the text.

@@ -1,4 +1,5 @@
 // Sheets: a graph with a request as text. Line 1 has n, k and q, two digits each; then the silent set, and then each row, has a line of 16 digits.
+// A graph with an isolated vertex has none: it is declined.
 ghost use mathlib.Core.Path.{_≡_};
 ghost use Rattle.sets.specs.Words.{masks};
 ghost use Rattle.judging.specs.Request.{asked};
@@ -10,6 +11,7 @@ ghost use Rattle.sheets.specs.Calls.{ReadSheet, WroteSheet};
 mod body;
 pub mod digits;
 mod heading;
+mod isolated;
 pub mod lines;
 
 use judging::Checked;
@@ -29,7 +31,7 @@ pub enum SheetWritten {
     Refused(Refusal),
 }
 
-// Judges the text as a sheet. Refusals: 8 at line 1, 1, 2, 3, 8, 7, 4, 5.
+// Judges the text as a sheet. Refusals: 8 at line 1, 1, 2, 3, 8, 7, 4, 5, 14.
 fn check_sheet(text: &[u8]) -> Checked
     ensures { λ r. ⌜ checkedReply r ≡ firstOf (sheetCauses (now (text .entry))) passed ⌝ }
 {
@@ -58,8 +60,8 @@ fn read_request(text: &[u8]) -> Request
 
 // Reads the sheet in the text and stores its rows in the first of the lent rows.
 // Success gives n, the slack, the floor and the silent set; the rows after the first n keep their contents.
-// Refusals: 8 at line 1, 1, 2, 3, 8, 7, 4, 5, 9, in this order; a refusal leaves every row as it was.
-// Cost: three passes over the text and one over the table.
+// Refusals: 8 at line 1, 1, 2, 3, 8, 7, 4, 5, 14, 9, in this order; a refusal leaves every row as it was.
+// Cost: three passes over the text and two over the table.
 pub fn read_sheet(text: &[u8], rows: &mut [u64]) -> SheetRead
     ensures { λ r. ⌜ ReadSheet (now (text .entry)) (masks (now (rows .entry))) (masks (now (rows .exit))) r ⌝ }
 {
@@ -81,12 +83,12 @@ pub fn read_sheet(text: &[u8], rows: &mut [u64]) -> SheetRead
 
 // Writes the sheet of the graph with these rows and of the request to the front of the text.
 // Success gives the sheet's length, 24 + 17n; the bytes beyond it keep their contents.
-// Refusals: 1, 2, 3, 7, 4, 5, 9, in this order; a refusal leaves the whole text as it was.
-// Cost: one pass over the table and one over the sheet.
+// Refusals: 1, 2, 3, 7, 4, 5, 14, 9, in this order; a refusal leaves the whole text as it was.
+// Cost: two passes over the table and one over the sheet.
 pub fn write_sheet(rows: &[u64], request: Request, text: &mut [u8]) -> SheetWritten
     ensures { λ r. ⌜ WroteSheet (masks (now (rows .entry))) (asked request) (now (text .entry)) (now (text .exit)) r ⌝ }
 {
-    let checked = check::check_request(rows, request);
+    let checked = isolated::then_isolated(check::check_request(rows, request), rows);
     if let Checked::Failed(f) = checked {
         return SheetWritten::Refused(f);
     }

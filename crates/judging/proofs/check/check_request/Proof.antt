@@ -32,4 +32,5 @@ returns-2 c =
     c .check-silent .ensures ∙ sym (front-accepted (numberCheck _ _ _) _ passed (numbers (told .before .before)) (told .enum-told .given .1))
 
 pub check-request-spec : {M : Type 1} → statement M
-check-request-spec = tie.close (tie.spec (λ c. search needs) (λ c. search needs) (λ c. search needs) returns (λ c. search needs) check-silent-requires returns-2)
+check-request-spec =
+    tie.close (tie.spec (λ c. search needs) (λ c. search needs) (λ c. search needs) returns (λ c. search needs) check-silent-requires returns-2)

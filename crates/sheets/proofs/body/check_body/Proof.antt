@@ -2,7 +2,7 @@
 use Prim.Native.Nat.{ℕ, _*_, _≤_}
 use native.Mathlib.Omega.{arith}
 use mathlib.Core.Path.{_≡_, sym, ap, ap₂, _∙_}
-use mathlib.Core.List.{List, _∷_}
+use mathlib.Core.List.{List, [], _∷_, _++_}
 use borrow.Author.Needs.{needs}
 use denote.Ref.{now}
 use lib.ListN.{length, drop}
@@ -12,7 +12,7 @@ use Rattle.sets.specs.Words.Groups.{blank}
 use Rattle.sets.specs.Words.Masks.{offset-fits, lent-length, front-fits, front-length}
 use Rattle.judging.specs.Refusal.{firstOf, graphCauses, setCause}
 use Rattle.judging.specs.Calls.{passed}
-use Rattle.sheets.specs.Sheet.{rowsIn, bodyCauses}
+use Rattle.sheets.specs.Sheet.{rowsIn, isolatedCause, bodyCauses}
 use Rattle.sheets.specs.Setting.{BodyLines}
 use Rattle.sheets.specs.BodyLaws.{line-refused, all-right, after-refused, lines-accepted, body-line}
 use Rattle.sheets.specs.BodyLaws.{table-fits, taken-lines, front-sized, front-masks}
@@ -85,8 +85,8 @@ array-share-prefix-table c =
     let store = c .before in
     front-fits (stored store) (behind store) (stored-long store)
 
-slice-aggregate-check-silent : tie.Need-slice-aggregate-check-silent
-slice-aggregate-check-silent c =
+slice-aggregate-rows : tie.Need-slice-aggregate-rows
+slice-aggregate-rows c =
     let store = c .before .before in
     front-length (stored store) (behind store) (stored-long store)
 
@@ -102,15 +102,15 @@ check-silent-requires c κs =
 returns-3 : tie.Need-returns-3
 unfolding bodyCauses
 returns-3 c =
-    let store = c .before .before .before .before in
+    let store = c .before .before .before .before .before in
     let at = lent store in
-    c .check-silent .ensures
-    ∙ ap₂ (λ (g : List ℕ) (z : ℕ). firstOf (setCause g z ∷ graphCauses g) passed)
-    (front-masks (stored store) (behind store) (stored-long store) (stored-rows store)) (c .before .silent .ensures)
+    c .then-isolated .ensures _ (c .before .check-silent .ensures)
+    ∙ ap₂ (λ (g : List ℕ) (z : ℕ). firstOf (setCause g z ∷ graphCauses g ++ isolatedCause g ∷ []) passed)
+    (front-masks (stored store) (behind store) (stored-long store) (stored-rows store)) (c .before .before .silent .ensures)
     ∙ lines-accepted _ _ (at .before .before .before .before .right-lines .ensures) _ (omega arith) (omega arith)
 
 pub check-body-spec : {M : Type 1} → statement M
 check-body-spec =
     tie.close (tie.spec (λ c. search needs) (λ c. search needs) (λ c. search needs) returns (λ c. search needs) (λ c. search needs) returns-2
     (λ c. search needs) offset-requires array-borrow-prefix-table slice-aggregate-store-rows store-rows-requires array-share-prefix-table
-    slice-aggregate-check-silent silent-requires check-silent-requires returns-3)
+    slice-aggregate-rows silent-requires check-silent-requires (λ c. search needs) returns-3)
