@@ -65,7 +65,7 @@ fn built(
 }
 
 // The same with n rows.
-fn sized(
+pub fn sized(
     cases: Tally,
     family: usize,
     n: usize,

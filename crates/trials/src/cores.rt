@@ -38,7 +38,7 @@ fn built(rows: &mut [u64], family: usize, k: usize, q: usize, mask: u64, passes:
 }
 
 // The same with n rows.
-fn is(family: usize, n: usize, k: usize, q: usize, mask: u64, passes: usize) -> bool {
+pub fn is(family: usize, n: usize, k: usize, q: usize, mask: u64, passes: usize) -> bool {
     let mut rows = [0u64; sets::TABLE];
     let end = words::end(&rows, n);
     built(&mut rows[0..end], family, k, q, mask, passes)

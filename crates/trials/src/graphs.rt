@@ -32,6 +32,11 @@ pub const RISING: usize = 10;
 
 pub const FALLING: usize = 11;
 
+// Complete, but the first or the last vertex is isolated.
+pub const FIRST_ALONE: usize = 12;
+
+pub const LAST_ALONE: usize = 13;
+
 // No vertex has this number.
 pub const NOWHERE: usize = sets::WIDTH;
 
@@ -76,6 +81,8 @@ fn adjacent(family: usize, variant: usize, n: usize, a: usize, b: usize, x: u64)
         OUTWARD => apart == 2 || b == 1,
         RISING => apart == 1 || b == 2,
         FALLING => apart == 1 || (apart == 2 && n - 1 == b),
+        FIRST_ALONE => a != 0,
+        LAST_ALONE => n - 1 != b,
         _ => apart % (variant % 4 + 2) == 0 && within(x, 100 - variant / 4 % 2 * 30),
     }
 }

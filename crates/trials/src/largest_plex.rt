@@ -19,7 +19,7 @@ use sets::Set;
 const FLOOR: usize = 64;
 
 // The lowest four vertices and the last of 64.
-const LOWEST_4_AND_LAST: u64 = 15 | (1 << 63);
+pub const LOWEST_4_AND_LAST: u64 = 15 | (1 << 63);
 
 // Is the answer a set of this size and this mask, number 0; or else this refusal with this value?
 fn gives(found: LargestFound, number: usize, value: usize, mask: u64) -> bool {
@@ -60,12 +60,12 @@ fn sized(
 }
 
 // Is it a set of this size and this mask?
-fn finds(family: usize, n: usize, k: usize, forced: u64, size: usize, mask: u64) -> bool {
+pub fn finds(family: usize, n: usize, k: usize, forced: u64, size: usize, mask: u64) -> bool {
     sized(family, n, k, forced, 0, size, mask)
 }
 
 // Is the forced set refused, since it is no k-plex?
-fn declines(family: usize, n: usize, k: usize, forced: u64) -> bool {
+pub fn declines(family: usize, n: usize, k: usize, forced: u64) -> bool {
     sized(family, n, k, forced, 11, 0, 0)
 }
 

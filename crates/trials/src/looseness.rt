@@ -28,7 +28,7 @@ fn built(rows: &mut [u64], family: usize, mask: u64, loose: usize) -> bool {
 }
 
 // The same with n rows.
-fn is(family: usize, n: usize, mask: u64, loose: usize) -> bool {
+pub fn is(family: usize, n: usize, mask: u64, loose: usize) -> bool {
     let mut rows = [0u64; sets::TABLE];
     let end = words::end(&rows, n);
     built(&mut rows[0..end], family, mask, loose)

@@ -1,7 +1,7 @@
 // Runs the edge cases of documents 01 and 02 that are not proved, and compares with trying all sets: the lists for graphs of 1 to 16 vertices, and with each
 // of some silent sets for graphs of 1 to 12, for graphs of 1 to 10 the largest k-plex with each set forced, how loose each set is, and the core of each slack
 // and floor with its passes, and for graphs of 2 to 14 the list after each of some changes. Prints a line for each group: how many cases it has, and how many
-// of them differ. Where an answer differs, its graph is printed as a sheet.
+// of them differ. Where an answer differs, its graph is printed as the text of a sheet, also where it has no sheet.
 mod all_sets;
 mod change_edges;
 mod change_refusals;
@@ -9,6 +9,8 @@ mod changes;
 mod compare;
 mod cores;
 mod graphs;
+mod isolated;
+mod isolated_sheets;
 mod largest_plex;
 mod list_edges;
 mod looseness;
@@ -47,6 +49,10 @@ fn sheet_cases() {
     tally::print(b"sheets read", sheet::read());
     tally::print(b"sheets written", sheet::written());
     tally::print(b"sheets read back", sheet::read_back());
+}
+
+fn isolated_cases() {
+    tally::print(b"vertices without edges, on rows", isolated::found());
 }
 
 fn looseness_cases() {
@@ -111,6 +117,7 @@ fn main() {
     list_cases();
     refusal_cases();
     sheet_cases();
+    isolated_cases();
     looseness_cases();
     core_cases();
     largest_cases();

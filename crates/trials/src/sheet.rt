@@ -1,6 +1,8 @@
-// Sheets, read and written at their edge cases; and the sheet of a graph, printed.
+// Sheets, read and written at their edge cases; and the text of any graph as a sheet, printed. What has an isolated vertex is in isolated_sheets.rt.
 use crate::graphs;
 use crate::graphs::EMPTY;
+use crate::isolated_sheets;
+use crate::isolated_sheets::Way;
 use crate::refusals;
 use crate::requests;
 use crate::requests::ask;
@@ -18,12 +20,18 @@ use sheets::SheetWritten;
 const MOST_TEXT: usize = 1112;
 
 // The sheet of five vertices.
-const LENGTH: usize = 109;
+pub const LENGTH: usize = 109;
 
 // Line 2, the silent set, starts there, and is as long as every later line.
 const LINE_2_AT: usize = 7;
 
-const LINE_LENGTH: usize = 17;
+pub const LINE_LENGTH: usize = 17;
+
+// Row 0 starts there.
+pub const ROWS_AT: usize = LINE_2_AT + LINE_LENGTH;
+
+// The most vertices of a sheet and one more.
+pub const MOST_ROWS: usize = 65;
 
 // What bytes hold before a call.
 const OLD: u8 = 63;
@@ -37,17 +45,41 @@ fn print_front(text: &[u8], n: usize) {
     }
 }
 
-// Prints the graph and the request as a sheet.
-pub fn print(rows: &[u64], request: Request) {
-    let mut text = [0u8; MOST_TEXT];
-    let written = sheets::write_sheet(rows, request, &mut text);
-    if let SheetWritten::Written(n) = written {
-        print_front(&text, n);
+// Line 1 says n, k and q, and line 2 which vertices are silent, whatever they are.
+fn head(text: &mut [u8], n: usize, request: Request) {
+    let silent = request.silent;
+    if ROWS_AT <= text.len() {
+        sheets::digits::write(&mut text[0..2], n as u64);
+        sheets::digits::write(&mut text[2..4], request.slack as u64);
+        sheets::lines::write_line(&mut text[4..LINE_2_AT], request.floor as u64);
+        sheets::lines::write_line(&mut text[LINE_2_AT..ROWS_AT], sets::word(silent, 0));
     }
 }
 
+// The text's front becomes lines 1 and 2 and the rows, as a sheet has them, also where there is no such sheet. Gives its length, or 0 where there is no room.
+pub fn lay_out(rows: &[u64], request: Request, text: &mut [u8]) -> usize {
+    let n = sets::count(rows);
+    if MOST_ROWS < n {
+        return 0;
+    }
+    let length = ROWS_AT + n * LINE_LENGTH;
+    if text.len() < length {
+        return 0;
+    }
+    head(text, n, request);
+    sheets::lines::write_rows(rows, &mut text[ROWS_AT..]);
+    length
+}
+
+// Prints the graph and the request as the text of a sheet. It may be one that reading declines with 14: a graph with an isolated vertex has no sheet.
+pub fn print(rows: &[u64], request: Request) {
+    let mut text = [0u8; MOST_TEXT];
+    let length = lay_out(rows, request, &mut text);
+    print_front(&text, length);
+}
+
 // The byte b at the position `at`, where there is one.
-fn put(text: &mut [u8], at: usize, b: u8) {
+pub fn put(text: &mut [u8], at: usize, b: u8) {
     if at < text.len() {
         text[at] = b;
     }
@@ -71,17 +103,6 @@ fn wipe(text: &mut [u8]) {
     while i < text.len() {
         text[i] = OLD;
         i += 1;
-    }
-}
-
-// Line 1 says n, k and q, and line 2 which vertices are silent, whatever they are.
-fn head(text: &mut [u8], n: usize, request: Request) {
-    let silent = request.silent;
-    if 23 <= text.len() {
-        sheets::digits::write(&mut text[0..2], n as u64);
-        sheets::digits::write(&mut text[2..4], request.slack as u64);
-        sheets::digits::write(&mut text[4..6], request.floor as u64);
-        sheets::digits::write(&mut text[7..23], sets::word(silent, 0));
     }
 }
 
@@ -118,7 +139,7 @@ fn reads(
 }
 
 // The same of the text's front.
-fn reads_front(
+pub fn reads_front(
     text: &[u8],
     length: usize,
     rows: &mut [u64],
@@ -180,6 +201,7 @@ fn heading_read(start: Tally) -> Tally {
     tally::with(cases, damaged(5, ask(1, 64), NOWHERE, 0, LENGTH, 4, 9, 5))
 }
 
+// Where only its own row becomes 0, a vertex is still a neighbour of others: 5, and not 14.
 fn rows_read(start: Tally) -> Tally {
     let mut cases = tally::with(start, cut(39, 51, 110, 0, 8, 8));
     cases = tally::with(cases, cut(41, 120, 110, 0, 8, 4));
@@ -189,6 +211,8 @@ fn rows_read(start: Tally) -> Tally {
     cases = tally::with(cases, cut(73, 67, LENGTH, 4, 4, 2));
     cases = tally::with(cases, cut(39, 51, LENGTH, 4, 4, 0));
     cases = tally::with(cases, cut(107, 49, LENGTH, 4, 5, 3));
+    cases = tally::with(cases, cut(56, 48, LENGTH, 5, 5, 0));
+    cases = tally::with(cases, cut(73, 48, LENGTH, 4, 5, 1));
     cases = tally::with(cases, cut(NOWHERE, 0, LENGTH, 4, 9, 5));
     cases = tally::with(cases, cut(NOWHERE, 0, LENGTH, 5, 0, 0));
     tally::with(cases, cut(NOWHERE, 0, LENGTH, 6, 0, 0))
@@ -243,7 +267,8 @@ fn silent_read(start: Tally) -> Tally {
 }
 
 pub fn read() -> Tally {
-    silent_read(silent_line_read(rows_read(heading_read(tally::none()))))
+    let linked = silent_read(silent_line_read(rows_read(heading_read(tally::none()))));
+    isolated_sheets::lines(isolated_sheets::declined(linked, Way::Read))
 }
 
 fn write_gives(found: SheetWritten, number: usize, value: usize) -> bool {
@@ -254,7 +279,7 @@ fn write_gives(found: SheetWritten, number: usize, value: usize) -> bool {
 }
 
 // Does the writing answer so, and are the bytes, which no sheet has, kept from `from` on?
-fn writes(
+pub fn writes(
     rows: &[u64],
     request: Request,
     text: &mut [u8],
@@ -289,7 +314,7 @@ fn faulty(
 // n rows that are all wrong are written.
 fn wrong(n: usize, request: Request, number: usize) -> bool {
     let mut text = [0u8; NOWHERE];
-    let rows = [GARBAGE; 65 * sets::WORDS];
+    let rows = [GARBAGE; MOST_ROWS * sets::WORDS];
     let end = words::end(&rows, n);
     writes(&rows[0..end], request, &mut text, number, 0, 0)
 }
@@ -336,7 +361,8 @@ fn silent_written(start: Tally) -> Tally {
 }
 
 pub fn written() -> Tally {
-    silent_written(plain_written(tally::none()))
+    let linked = silent_written(plain_written(tally::none()));
+    isolated_sheets::changed(isolated_sheets::declined(linked, Way::Write))
 }
 
 // The text becomes the sheet of the graph of the family with a vertex for each row. Gives the sheet's length, or 0 where it is refused.
@@ -366,7 +392,7 @@ fn gives_back(
 fn reads_back(family: usize, n: usize, request: Request) -> bool {
     let mut text = [OLD; MOST_TEXT];
     let mut rows = [0u64; sets::TABLE];
-    let mut stored = [0u64; 65 * sets::WORDS];
+    let mut stored = [0u64; MOST_ROWS * sets::WORDS];
     let end = words::end(&rows, n);
     gives_back(&mut rows[0..end], family, request, &mut text, &mut stored)
 }
@@ -380,13 +406,19 @@ fn drop_silent_line(text: &mut [u8]) {
     }
 }
 
+// The text becomes that of the graph of the family with a vertex for each row. Gives its length.
+fn lay_out_built(rows: &mut [u64], family: usize, request: Request, text: &mut [u8]) -> usize {
+    graphs::build(rows, family, 0);
+    lay_out(rows, request, text)
+}
+
 // Is the sheet of the same graph, as it was then, refused with 8 at this line?
 fn lacks_line(family: usize, n: usize, line: usize) -> bool {
     let mut text = [OLD; MOST_TEXT];
     let mut rows = [0u64; sets::TABLE];
-    let mut stored = [0u64; 65 * sets::WORDS];
+    let mut stored = [0u64; MOST_ROWS * sets::WORDS];
     let end = words::end(&rows, n);
-    let length = write_built(&mut rows[0..end], family, ask(1, 1), &mut text);
+    let length = lay_out_built(&mut rows[0..end], family, ask(1, 1), &mut text);
     if length < LINE_LENGTH {
         return false;
     }
@@ -402,10 +434,13 @@ fn lacks_line(family: usize, n: usize, line: usize) -> bool {
     )
 }
 
-// Some silent sets, and the line n + 2 of a sheet without one.
+// Some silent sets, and the line n + 2 of a sheet without one. Two adjacent vertices are the least graph that has a sheet.
 pub fn read_back() -> Tally {
-    let mut cases = tally::with(tally::none(), reads_back(EMPTY, 1, ask_silent(1, 1, 0)));
-    cases = tally::with(cases, reads_back(EMPTY, 1, ask_silent(1, 64, 1)));
+    let mut cases = tally::with(
+        tally::none(),
+        reads_back(graphs::COMPLETE, 2, ask_silent(1, 1, 0)),
+    );
+    cases = tally::with(cases, reads_back(graphs::COMPLETE, 2, ask_silent(1, 64, 1)));
     cases = tally::with(cases, reads_back(graphs::RING, 5, ask_silent(2, 3, 0)));
     cases = tally::with(cases, reads_back(graphs::RING, 5, ask_silent(2, 3, 5)));
     cases = tally::with(cases, reads_back(graphs::RING, 5, ask_silent(5, 9, 31)));

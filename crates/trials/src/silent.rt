@@ -15,13 +15,13 @@ use crate::words::GARBAGE;
 use judging::Request;
 
 // More slots than an edge case needs.
-const FEW_WORDS: usize = 16 * sets::WORDS;
+const FEW_WORDS: usize = 72 * sets::WORDS;
 
 // The lower half of 64 vertices.
 const LOWER_HALF: u64 = 4294967295;
 
 // Every second of 64 vertices, from 1 on.
-const ODD: u64 = 12297829382473034410;
+pub const ODD: u64 = 12297829382473034410;
 
 // How many silent sets of a graph are tried: all where it has no more.
 const SILENT_SETS: u64 = 32;
@@ -36,7 +36,7 @@ fn built(cases: Tally, rows: &mut [u64], family: usize, request: Request, masks:
 }
 
 // The same with n rows.
-fn sized(cases: Tally, family: usize, n: usize, request: Request, masks: &[u64]) -> Tally {
+pub fn sized(cases: Tally, family: usize, n: usize, request: Request, masks: &[u64]) -> Tally {
     let mut rows = [0u64; sets::TABLE];
     let end = words::end(&rows, n);
     built(cases, &mut rows[0..end], family, request, masks)
