@@ -24,6 +24,7 @@
  *        11  the forced set is no k-plex                                0
  *        12  a and b are the same vertex                                0
  *        13  the edge is already so                                     0
+ *        14  of a sheet: a row is 0, so its vertex has no neighbour     the lowest such row
  *
  * A refusal leaves every buffer as it was, but for 6 of the list, which makes all slots 0; 6 of a change leaves the rows and the slots. Nothing is
  * allocated or kept between calls, and calls may run at the same time on other buffers. The caller sees to it that a pointer is not null, is aligned, and
@@ -124,12 +125,13 @@ kadvisk_outcome kadvisk_largest(const uint64_t *rows, size_t n, size_t slack, ui
 
 /* Reads a sheet: line 1 has n, k and q in two hexadecimal digits each, capitals for A to F, line 2 has the mask of the silent vertices in 16, then each row
  * has a line of 16, and every line ends in byte 10. So row a is line a + 3, and text after the end is line n + 3. The first n of the rows become the graph,
- * and the later ones keep what they held. Refusals, in this order: 8 at line 1, 1, 2, 3, 8 at another line, 7 where the mask reaches n, 4, 5, 9. A sheet
- * of the time before line 2 is 8 at line n + 2, which it lacks. */
+ * and the later ones keep what they held. Refusals, in this order: 8 at line 1, 1, 2, 3, 8 at another line, 7 where the mask reaches n, 4, 5, 14 where a
+ * row is 0, 9. A sheet of the time before line 2 is 8 at line n + 2, which it lacks. A row that is 0 stands for a vertex that nobody linked, an entry that
+ * is not finished: so a sheet of one vertex is always refused. The calls above take such rows. */
 kadvisk_read_outcome kadvisk_read_sheet(const uint8_t *text, size_t length, uint64_t *rows, size_t room);
 
 /* Writes the sheet of a graph and a request. Value: its length, 24 + 17n; the bytes beyond keep what they held. Refusals, in this order: 1, 2, 3, 7 where
- * `silent` reaches n, 4, 5, 9. */
+ * `silent` reaches n, 4, 5, 14 where a row is 0, 9. What is written is read as it was, and what is read is written as it was, byte by byte. */
 kadvisk_outcome kadvisk_write_sheet(const uint64_t *rows, size_t n, size_t slack, size_t floor, uint64_t silent, uint8_t *text, size_t room);
 
 #ifdef __cplusplus

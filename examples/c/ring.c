@@ -1,5 +1,6 @@
 /* Five vertices in a ring: tells how loose a set is, takes the core at two floors, lists the maximal 2-plexes of three or more vertices, and again with a
- * silent one, finds the largest that holds a vertex, keeps the list in a book while an edge is added, and writes and reads the sheet. */
+ * silent one, finds the largest that holds a vertex, keeps the list in a book while an edge is added, and writes and reads the sheet. Beside a sixth vertex
+ * that nobody linked the list is the same, and there is no sheet. */
 #include <inttypes.h>
 #include <stdio.h>
 #include <string.h>
@@ -12,6 +13,7 @@ static void refusal(size_t number, size_t value) {
 
 int main(void) {
     const uint64_t ring[5] = {0x12, 0x05, 0x0A, 0x14, 0x09};
+    const uint64_t unlinked[6] = {0x12, 0x05, 0x0A, 0x14, 0x09, 0};
     uint64_t slots[8], rows[64];
     uint8_t text[1112];
 
@@ -64,5 +66,11 @@ int main(void) {
     fwrite(text, 1, sheet.value, stdout);
     kadvisk_read_outcome read = kadvisk_read_sheet(text, sheet.value, rows, 64);
     printf("n %zu, k %zu, q %zu, silent %02" PRIX64 "\n", read.vertices, read.slack, read.floor, read.silent);
+
+    /* a sixth vertex whose row is 0: the rows are listed, and the sheet is refused with that row */
+    list = kadvisk_list(unlinked, 6, 2, 3, 0, slots, 8);
+    printf("beside an unlinked vertex: %zu\n", list.value);
+    sheet = kadvisk_write_sheet(unlinked, 6, 2, 3, 0, text, sizeof text);
+    refusal(sheet.number, sheet.value);
     return 0;
 }

@@ -1,5 +1,6 @@
 //! Five vertices in a ring: tells how loose a set is, takes the core at two floors, lists the maximal 2-plexes of three or more vertices, and again with a
-//! silent one, finds the largest with a given vertex, and keeps the list in a book while an edge is added.
+//! silent one, finds the largest with a given vertex, and keeps the list in a book while an edge is added. Beside a sixth vertex that nobody linked the list
+//! is the same, and there is no sheet.
 
 fn main() -> Result<(), kadvisk::Refusal> {
     let ring = [0x12, 0x05, 0x0A, 0x14, 0x09];
@@ -29,6 +30,11 @@ fn main() -> Result<(), kadvisk::Refusal> {
         if let Err(refusal) = kadvisk::list(&ring, slack, floor, silent, &mut []) {
             println!("R{:02} {:016X}: {refusal}", refusal.number(), refusal.value());
         }
+    }
+    let unlinked = [0x12, 0x05, 0x0A, 0x14, 0x09, 0];
+    println!("beside an unlinked vertex: {}", kadvisk::count(&unlinked, 2, 3, 0)?);
+    if let Err(refusal) = kadvisk::write_sheet(&unlinked, 2, 3, 0, &mut [0; 126]) {
+        println!("R{:02} {:016X}: {refusal}", refusal.number(), refusal.value());
     }
     Ok(())
 }

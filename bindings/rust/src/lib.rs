@@ -59,10 +59,12 @@ pub enum Refusal {
     Loop,
     /// 13: the edge is already so: a and b are adjacent, or not, as was asked.
     Unchanged,
+    /// 14: this row of a sheet, the lowest such, is 0: its vertex has no neighbour. The calls on rows take such a row.
+    Isolated(usize),
 }
 
 impl Refusal {
-    /// The refusal of this number and value; none where the number is not 1 to 13.
+    /// The refusal of this number and value; none where the number is not 1 to 14.
     pub fn new(number: usize, value: usize) -> Option<Refusal> {
         Some(match number {
             1 => Refusal::Vertices,
@@ -78,11 +80,12 @@ impl Refusal {
             11 => Refusal::Forced,
             12 => Refusal::Loop,
             13 => Refusal::Unchanged,
+            14 => Refusal::Isolated(value),
             _ => return None,
         })
     }
 
-    /// The number of this refusal, 1 to 13.
+    /// The number of this refusal, 1 to 14.
     pub fn number(self) -> usize {
         match self {
             Refusal::Vertices => 1,
@@ -98,13 +101,14 @@ impl Refusal {
             Refusal::Forced => 11,
             Refusal::Loop => 12,
             Refusal::Unchanged => 13,
+            Refusal::Isolated(_) => 14,
         }
     }
 
     /// The value that comes with it: a row, a count, a line or a length, and else 0.
     pub fn value(self) -> usize {
         match self {
-            Refusal::Row(x) | Refusal::OneWay(x) | Refusal::Slots(x) | Refusal::Line(x) | Refusal::Room(x) => x,
+            Refusal::Row(x) | Refusal::OneWay(x) | Refusal::Slots(x) | Refusal::Line(x) | Refusal::Room(x) | Refusal::Isolated(x) => x,
             _ => 0,
         }
     }
@@ -126,6 +130,7 @@ impl fmt::Display for Refusal {
             Refusal::Forced => write!(f, "the forced set is no k-plex"),
             Refusal::Loop => write!(f, "a and b are the same vertex"),
             Refusal::Unchanged => write!(f, "the edge is already so"),
+            Refusal::Isolated(a) => write!(f, "row {a} is 0: vertex {a} has no neighbour"),
         }
     }
 }
@@ -424,8 +429,9 @@ pub fn largest(rows: &[u64], slack: usize, forced: u64) -> Result<Largest, Refus
 
 /// Reads the sheet in `text`: n rows are stored in the first of `rows`, and later ones keep their contents.
 ///
-/// Refusals, in this order: 8 at line 1, 1, 2, 3, 8 at another line, 7 where the silent vertices reach n, 4, 5, 9. Each leaves every row as it was. A sheet
-/// of the time before line 2, which has the silent vertices, is 8 at line n + 2.
+/// Refusals, in this order: 8 at line 1, 1, 2, 3, 8 at another line, 7 where the silent vertices reach n, 4, 5, 14 where a row is 0, 9. Each leaves every
+/// row as it was. A sheet of the time before line 2, which has the silent vertices, is 8 at line n + 2. A row that is 0 stands for a vertex that nobody
+/// linked, an entry that is not finished: so a sheet of one vertex is always refused.
 ///
 /// ```
 /// let mut rows = [0; 64];
@@ -435,6 +441,10 @@ pub fn largest(rows: &[u64], slack: usize, forced: u64) -> Result<Largest, Refus
 /// assert_eq!(rows[..2], [0x02, 0x01]);
 /// let old = b"020102\n0000000000000002\n0000000000000001\n";
 /// assert_eq!(kadvisk::read_sheet(old, &mut rows), Err(kadvisk::Refusal::Line(4)));
+///
+/// // nobody linked vertex 2
+/// let unlinked = b"030102\n0000000000000000\n0000000000000002\n0000000000000001\n0000000000000000\n";
+/// assert_eq!(kadvisk::read_sheet(unlinked, &mut rows), Err(kadvisk::Refusal::Isolated(2)));
 /// # Ok::<(), kadvisk::Refusal>(())
 /// ```
 pub fn read_sheet(text: &[u8], rows: &mut [u64]) -> Result<Heading, Refusal> {
@@ -445,7 +455,19 @@ pub fn read_sheet(text: &[u8], rows: &mut [u64]) -> Result<Heading, Refusal> {
 
 /// Writes the sheet of the graph and the request to the front of `text` and gives its length, 24 + 17n. Later bytes keep theirs.
 ///
-/// Refusals, in this order: 1, 2, 3, 7 where `silent` reaches n, 4, 5, 9. Each leaves the whole text as it was.
+/// Refusals, in this order: 1, 2, 3, 7 where `silent` reaches n, 4, 5, 14 where a row is 0, 9. Each leaves the whole text as it was. What is written is read
+/// as it was by [`read_sheet`], and what that reads is written as it was, byte by byte.
+///
+/// ```
+/// let mut text = [0; 75];
+/// assert_eq!(kadvisk::write_sheet(&[0x06, 0x05, 0x03], 1, 2, 0, &mut text), Ok(75));
+/// assert_eq!(&text[..24], b"030102\n0000000000000000\n");
+///
+/// // nobody linked vertex 2: such a graph has a list, and no sheet
+/// let unlinked = [0x02, 0x01, 0x00];
+/// assert_eq!(kadvisk::write_sheet(&unlinked, 1, 2, 0, &mut text), Err(kadvisk::Refusal::Isolated(2)));
+/// assert_eq!(kadvisk::list_all(&unlinked, 1, 2, 0), Ok(vec![0x03]));
+/// ```
 pub fn write_sheet(rows: &[u64], slack: usize, floor: usize, silent: u64, text: &mut [u8]) -> Result<usize, Refusal> {
     valued(unsafe { ffi::kadvisk_write_sheet(rows.as_ptr(), rows.len(), slack, floor, silent, text.as_mut_ptr(), text.len()) })
 }

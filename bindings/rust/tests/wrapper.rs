@@ -135,6 +135,37 @@ fn sheets() {
 }
 
 #[test]
+fn a_vertex_that_nobody_linked() {
+    // vertices 5 and 6 beside the ring
+    let rows = [0x12, 0x05, 0x0A, 0x14, 0x09, 0, 0];
+    let mut text = [b'.'; 143];
+    assert_eq!(kadvisk::write_sheet(&rows, 2, 3, 0x10, &mut text), Err(Refusal::Isolated(5)));
+    assert_eq!(kadvisk::write_sheet(&rows, 2, 3, 0x10, &mut []), Err(Refusal::Isolated(5)));
+    assert_eq!(kadvisk::write_sheet(&rows[6..], 1, 1, 0, &mut text), Err(Refusal::Isolated(0)));
+    assert_eq!(text, [b'.'; 143]);
+    let lines: String = rows.iter().map(|row| format!("{row:016X}\n")).collect();
+    let sheet = format!("070203\n0000000000000010\n{lines}");
+    let mut back = [7; 7];
+    assert_eq!(kadvisk::read_sheet(sheet.as_bytes(), &mut back), Err(Refusal::Isolated(5)));
+    assert_eq!(kadvisk::read_sheet(sheet.as_bytes(), &mut back[..2]), Err(Refusal::Isolated(5)));
+    assert_eq!(back, [7; 7]);
+    // the calls on rows take them
+    assert_eq!(kadvisk::list_all(&rows, 2, 3, 0), Ok(LIST.to_vec()));
+    assert_eq!(kadvisk::list_all(&rows, 1, 1, 0), Ok(vec![0x03, 0x06, 0x0C, 0x11, 0x18, 0x20, 0x40]));
+    assert_eq!(kadvisk::looseness(&rows, 0x61), Ok(3));
+    assert_eq!(kadvisk::largest(&rows, 2, 0x20), Ok(Largest { size: 2, mask: 0x21 }));
+    assert_eq!(kadvisk::core(&rows, 2, 3), Ok(Core { mask: 0x1F, passes: 2 }));
+    assert_eq!(kadvisk::reach(&rows, 6), Ok(0x40));
+    // once both are linked the sheet is written
+    let (mut rows, mut slots) = (rows, [0; 8]);
+    let mut book = Book::open(&mut rows, 2, 3, 0, &mut slots).unwrap();
+    assert_eq!(book.change(5, 6, true), Ok(5));
+    assert_eq!(kadvisk::write_sheet(book.rows(), 2, 3, 0x10, &mut text), Ok(143));
+    assert_eq!(kadvisk::read_sheet(&text, &mut back), Ok(Heading { vertices: 7, slack: 2, floor: 3, silent: 0x10 }));
+    assert_eq!(back, rows);
+}
+
+#[test]
 fn refusals() {
     let mut text = [0; 8];
     for (answer, refusal) in [
@@ -152,11 +183,13 @@ fn refusals() {
         (kadvisk::largest(&RING, 1, 0x05).map(|_| 0), Refusal::Forced),
         (kadvisk::change(&mut RING.clone(), 2, 3, 0, 0, 0, true, &mut []), Refusal::Loop),
         (kadvisk::change(&mut RING.clone(), 2, 3, 0, 0, 1, true, &mut []), Refusal::Unchanged),
+        (kadvisk::write_sheet(&[2, 1, 0, 0], 1, 1, 0, &mut text), Refusal::Isolated(2)),
     ] {
         assert_eq!(answer, Err(refusal));
         assert_eq!(Refusal::new(refusal.number(), refusal.value()), Some(refusal));
         assert!(!refusal.to_string().is_empty());
     }
     assert_eq!(Refusal::new(0, 0), None);
-    assert_eq!(Refusal::new(14, 0), None);
+    assert_eq!(Refusal::new(15, 0), None);
+    assert_eq!(Refusal::Isolated(5).to_string(), "row 5 is 0: vertex 5 has no neighbour");
 }
