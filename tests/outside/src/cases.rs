@@ -37,6 +37,36 @@ pub fn graph(rng: &mut Rng, low: usize, high: usize) -> Vec<u64> {
     }
 }
 
+/// As [`graph`], of two vertices or more: each that has no neighbour is joined to another.
+pub fn linked(rng: &mut Rng, low: usize, high: usize) -> Vec<u64> {
+    let mut rows = graph(rng, low, high);
+    let n = rows.len();
+    for a in 0..n {
+        if rows[a] == 0 {
+            instances::connect(&mut rows, a, (a + rng.between(1, n - 1)) % n);
+        }
+    }
+    rows
+}
+
+/// A graph: of eight one as it comes, of one vertex or more, one in which a vertex has no neighbour, and the others linked.
+pub fn mostly_linked(rng: &mut Rng, high: usize) -> Vec<u64> {
+    let kind = rng.below(8);
+    let mut rows = if kind == 0 { graph(rng, 1, high) } else { linked(rng, 2, high) };
+    if kind == 1 {
+        let v = rng.below(rows.len());
+        isolate(&mut rows, 1 << v);
+    }
+    rows
+}
+
+/// Takes all edges of the vertices of a set.
+pub fn isolate(rows: &mut [u64], set: u64) {
+    for (a, row) in rows.iter_mut().enumerate() {
+        *row = if set >> a & 1 == 1 { 0 } else { *row & !set };
+    }
+}
+
 /// A set of vertices below n, of any density.
 pub fn subset(rng: &mut Rng, n: usize) -> u64 {
     let p = rng.unit();
@@ -81,13 +111,29 @@ pub fn damage(rng: &mut Rng, rows: &mut [u64]) {
     }
 }
 
-/// No edges, and the chosen ones of the causes 1, 4 and 5: with 1 there is no row, or 65; row 3 has its own bit; row 2 has 1, whose row lacks 2.
-pub fn faulty_rows([vertices, row, one_way]: [bool; 3], empty: bool) -> Vec<u64> {
-    let mut rows = match (vertices, empty) {
-        (false, _) => vec![0; 5],
-        (true, false) => vec![0; 65],
-        (true, true) => vec![],
-    };
+/// Five vertices without an edge, and the chosen ones of the causes 1, 4 and 5: with 1 there is no row, or 65; row 3 has its own bit; row 2 has 1, whose row
+/// lacks 2.
+pub fn faulty_rows(causes: [bool; 3], empty: bool) -> Vec<u64> {
+    with_faults(vec![0; 5], causes, empty)
+}
+
+/// The lowest vertex that has no neighbour where cause 14 is chosen, in each of four ways.
+pub const LOWEST_ISOLATED: [usize; 4] = [4, 0, 1, 0];
+
+/// Five vertices of which all are adjacent but 1 and 2, and the chosen ones of the causes 1, 4 and 5, as above, and 14: some vertices have no neighbour, in
+/// one of four ways, and the row of the lowest is 0 whatever else is chosen.
+pub fn faulty_linked_rows([vertices, row, one_way, isolated]: [bool; 4], empty: bool, way: usize) -> Vec<u64> {
+    let mut rows = vec![0x1E, 0x19, 0x19, 0x17, 0x0F];
+    if isolated {
+        isolate(&mut rows, [0x10, 0x01, 0x12, 0x1F][way]);
+    }
+    with_faults(rows, [vertices, row, one_way], empty)
+}
+
+fn with_faults(mut rows: Vec<u64>, [vertices, row, one_way]: [bool; 3], empty: bool) -> Vec<u64> {
+    if vertices {
+        rows.resize(if empty { 0 } else { 65 }, 0);
+    }
     if row && rows.len() > 3 {
         rows[3] |= 1 << 3;
     }

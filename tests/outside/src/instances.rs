@@ -32,7 +32,8 @@ impl Rng {
     }
 }
 
-fn connect(rows: &mut [u64], a: usize, b: usize) {
+/// Makes two vertices adjacent.
+pub fn connect(rows: &mut [u64], a: usize, b: usize) {
     if a != b {
         rows[a] |= 1 << b;
         rows[b] |= 1 << a;

@@ -63,7 +63,23 @@ pub fn silent_edges(rows: &[u64], silent: u64) -> Refused {
     when(reaches(silent, rows.len()), 7, 0).or_else(|| edges(rows))
 }
 
-/// 1, 2, 3, 7, 4, 5: of the list and of writing before their buffers are looked at.
+/// 14: of a table of 1 to 64 rows, the lowest vertex that is adjacent to none.
+pub fn isolated(rows: &[u64]) -> Refused {
+    let n = rows.len();
+    (0..n).find(|&a| !(0..n).any(|b| adjacent(rows, a, b))).map(|a| (14, a))
+}
+
+/// 7, 4, 5, 14: of a sheet whose lines are right, before the buffer is looked at.
+pub fn reading(rows: &[u64], silent: u64) -> Refused {
+    silent_edges(rows, silent).or_else(|| isolated(rows))
+}
+
+/// 1, 2, 3, 7, 4, 5, 14: of writing, before the buffer is looked at.
+pub fn writing(rows: &[u64], k: usize, q: usize, silent: u64) -> Refused {
+    numbers(rows.len(), k, q).or_else(|| reading(rows, silent))
+}
+
+/// 1, 2, 3, 7, 4, 5: of the list, before its slots are looked at.
 pub fn request(rows: &[u64], k: usize, q: usize, silent: u64) -> Refused {
     numbers(rows.len(), k, q).or_else(|| silent_edges(rows, silent))
 }

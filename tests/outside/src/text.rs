@@ -1,5 +1,5 @@
 //! Sheets, read and written by lines.
-use crate::refusals::{numbers, silent_edges, when};
+use crate::refusals::{numbers, reading, when};
 
 /// What a sheet says.
 #[derive(Clone, Debug, PartialEq, Eq)]
@@ -35,7 +35,7 @@ pub fn read(text: &[u8], room: usize) -> Result<Sheet, (usize, usize)> {
     let silent = mask(2)?;
     let rows = (0..n).map(|a| mask(a + 3)).collect::<Result<Vec<u64>, _>>()?;
     let more = lines.len() > n + 2 || !cut_short.is_empty();
-    match when(more, 8, n + 3).or_else(|| silent_edges(&rows, silent)).or_else(|| when(room < n, 9, n)) {
+    match when(more, 8, n + 3).or_else(|| reading(&rows, silent)).or_else(|| when(room < n, 9, n)) {
         Some(refused) => Err(refused),
         None => Ok(Sheet { rows, slack: k, floor: q, silent }),
     }

@@ -1,5 +1,6 @@
 //! The program `kplexes`: sheets, damaged sheets and random bytes on its standard input, against what the rules of the sheet and of the list say.
-use outside::cases::{graph, many, silent};
+use outside::calls::{list, refused, success};
+use outside::cases::{isolate, many, mostly_linked, silent};
 use outside::instances::{self, Rng};
 use outside::{book, text};
 use std::io::Write;
@@ -60,28 +61,71 @@ fn the_ring() {
 #[test]
 fn sheets() {
     let program = program();
-    let mut rng = Rng(40);
+    let (mut rng, mut linked, mut others) = (Rng(40), 0, 0);
     for _ in 0..many(400) {
-        let (rows, k) = (graph(&mut rng, 1, 24), rng.between(1, 3));
+        let (rows, k) = (mostly_linked(&mut rng, 24), rng.between(1, 3));
         let silent = silent(&mut rng, rows.len());
         hold(&program, &text::write(&rows, k, 2 * k - 1 + rng.below(8), silent));
+        *if rows.contains(&0) { &mut others } else { &mut linked } += 1;
     }
+    println!("{linked} sheets in which each vertex has a neighbour, {others} others");
+    assert!(linked > 200 && others > 20);
     hold(&program, &text::write(&instances::complete(64), 1, 64, 0));
     hold(&program, &text::write(&instances::complete(64), 5, 9, 0));
     hold(&program, &text::write(&instances::random(64, 0.3, 1), 2, 3, 0));
     hold(&program, &text::write(&instances::random(64, 0.2, 1), 1, 2, 0));
-    // just as many masks as there are slots, and one plex more
-    let pairs = |n: usize| (0..n).map(|v| if v ^ 1 < n { 1u64 << (v ^ 1) } else { 0 }).collect::<Vec<u64>>();
-    hold(&program, &text::write(&pairs(64), 2, 3, 0));
-    let parts = instances::multipartite(24, 2);
-    hold(&program, &text::write(&parts, 1, 12, 0));
-    let mut joined = parts.clone();
-    joined.push(0);
-    hold(&program, &text::write(&joined, 1, 1, 0));
-    // that one is silent: again as many as there are slots
-    hold(&program, &text::write(&joined, 1, 1, 1 << 24));
     hold(&program, &text::write(&instances::complete(64), 5, 33, u64::MAX >> 31));
     hold(&program, &text::write(&instances::complete(64), 5, 32, u64::MAX >> 32));
+    let pairs = (0..64).map(|v| 1u64 << (v ^ 1)).collect::<Vec<u64>>();
+    hold(&program, &text::write(&pairs, 2, 3, 0));
+}
+
+#[test]
+fn just_as_many_masks_as_there_are_slots_and_one_more() {
+    let (program, parts) = (program(), instances::multipartite(24, 2));
+    hold(&program, &text::write(&parts, 1, 12, 0));
+    // a clique more: two vertices that are adjacent to each other alone
+    let joined = [&parts[..], &[1 << 25, 1 << 24]].concat();
+    assert_eq!(run(&program, &text::write(&joined, 1, 1, 0)), b"R06 0000000000001001\n");
+    hold(&program, &text::write(&joined, 1, 1, 0));
+    // one of them is silent, so that both are below the floor: again as many as there are slots
+    let sheet = text::write(&joined, 1, 2, 1 << 24);
+    hold(&program, &sheet);
+    assert!(run(&program, &sheet).starts_with(b"0000000000001000\n"));
+    // a clique more: a vertex that nobody linked. The program declines the sheet, and the call takes the rows
+    let alone = [&parts[..], &[0]].concat();
+    for silent in [0, 1 << 24] {
+        assert_eq!(run(&program, &text::write(&alone, 1, 1, silent)), b"R14 0000000000000018\n");
+    }
+    let mut slots = [7; 4096];
+    assert_eq!(list(&alone, 1, 1, 0, &mut slots), refused((6, 4097)));
+    assert_eq!(list(&alone, 1, 1, 1 << 24, &mut slots), success(4096, 0));
+    assert_eq!(slots[..], book::list(&parts, 1, 1, 0));
+}
+
+#[test]
+fn vertices_that_nobody_linked() {
+    let program = program();
+    let declined = |rows: &[u64], lowest: usize| {
+        assert_eq!(String::from_utf8_lossy(&run(&program, &text::write(rows, 1, 1, 0))), format!("R14 {lowest:016X}\n"), "{rows:X?}");
+    };
+    // without an edge the sheet is declined at row 0, and the rows are a list of single vertices
+    for n in 1..=64 {
+        declined(&vec![0; n], 0);
+        let mut slots = vec![7; n];
+        assert_eq!(list(&vec![0; n], 1, 1, 0, &mut slots), success(n, 0));
+        assert_eq!(slots, (0..n).map(|v| 1 << v).collect::<Vec<u64>>());
+    }
+    // each vertex of a ring, by itself and beside the last; between 1 and the last vertex 0 has no neighbour either
+    for n in [4, 5, 17, 64] {
+        for a in 0..n {
+            let mut rows = instances::ring(n);
+            isolate(&mut rows, 1 << a);
+            declined(&rows, a);
+            isolate(&mut rows, 1 << (n - 1));
+            declined(&rows, if a == 1 { 0 } else { a });
+        }
+    }
 }
 
 #[test]
@@ -100,7 +144,7 @@ fn damaged_sheets() {
     let program = program();
     let mut rng = Rng(41);
     for case in 0..many(1000) {
-        let rows = graph(&mut rng, 1, 10);
+        let rows = mostly_linked(&mut rng, 10);
         let mut sheet = text::write(&rows, 2, 3, silent(&mut rng, rows.len()));
         // line 2 in every fourth sheet
         let at = if case % 4 == 0 { rng.between(7, 23) } else { rng.below(sheet.len()) };
@@ -126,7 +170,12 @@ fn random_bytes() {
         let bytes: Vec<u8> = match rng.below(3) {
             0 => (0..length).map(|_| rng.word() as u8).collect(),
             1 => (0..length).map(|_| b"0123456789ABCDEF\n"[rng.below(17)]).collect(),
-            _ => format!("{:02X}0101\n", rng.below(66)).into_bytes().into_iter().chain((0..length).map(|i| if i % 17 == 16 { 10 } else { 48 })).collect(),
+            _ => {
+                // lines of zeros, of which every other time there are as many as line 1 says
+                let n = rng.below(66);
+                let length = if rng.chance(0.5) { 17 * (n + 1) } else { length };
+                format!("{n:02X}0101\n").into_bytes().into_iter().chain((0..length).map(|i| if i % 17 == 16 { 10 } else { 48 })).collect()
+            }
         };
         hold(&program, &bytes);
     }

@@ -2,7 +2,7 @@
 use kadvisk::ffi::Outcome;
 use outside::book::{Book, Change};
 use outside::calls::*;
-use outside::cases::{damage, faulty_rows, first_of, floor, graph, many, slack, subset};
+use outside::cases::{damage, faulty_linked_rows, faulty_rows, first_of, floor, graph, linked, many, slack, subset, LOWEST_ISOLATED};
 use outside::instances::Rng;
 use outside::refusals::{self, when, Refused};
 use outside::{plain, text};
@@ -31,9 +31,16 @@ fn set(rng: &mut Rng, n: usize) -> u64 {
     }
 }
 
-struct Tally([usize; 14]);
+/// One more than the highest number of a refusal.
+const NUMBERS: usize = 15;
+
+struct Tally([usize; NUMBERS]);
 
 impl Tally {
+    fn none() -> Tally {
+        Tally([0; NUMBERS])
+    }
+
     /// Counts what is owed, and holds the call to it.
     fn count(&mut self, owed: Refused, hold: impl FnOnce(Refused)) {
         self.0[owed.map_or(0, |(number, _)| number)] += 1;
@@ -47,13 +54,13 @@ impl Tally {
 
     fn all_of(&self, numbers: &[usize]) {
         println!("outcomes by number: {:?}", self.0);
-        assert!((0..14).all(|number| (self.0[number] > 10) == numbers.contains(&number)), "{:?}", self.0);
+        assert!((0..NUMBERS).all(|number| (self.0[number] > 10) == numbers.contains(&number)), "{:?}", self.0);
     }
 }
 
 #[test]
 fn judging() {
-    let (mut rng, mut loose, mut maximal) = (Rng(30), Tally([0; 14]), Tally([0; 14]));
+    let (mut rng, mut loose, mut maximal) = (Rng(30), Tally::none(), Tally::none());
     for _ in 0..many(20_000) {
         let (rows, k) = (table(&mut rng), slack(&mut rng));
         let s = set(&mut rng, rows.len());
@@ -66,7 +73,7 @@ fn judging() {
 
 #[test]
 fn core_and_reach() {
-    let (mut rng, mut cores, mut reaches) = (Rng(31), Tally([0; 14]), Tally([0; 14]));
+    let (mut rng, mut cores, mut reaches) = (Rng(31), Tally::none(), Tally::none());
     for _ in 0..many(20_000) {
         let (rows, k) = (table(&mut rng), slack(&mut rng));
         let q = floor(&mut rng, k);
@@ -83,7 +90,7 @@ fn core_and_reach() {
 
 #[test]
 fn bounds() {
-    let (mut rng, mut tally) = (Rng(32), Tally([0; 14]));
+    let (mut rng, mut tally) = (Rng(32), Tally::none());
     for _ in 0..many(20_000) {
         let (rows, k) = (table(&mut rng), slack(&mut rng));
         let (s, c) = (set(&mut rng, rows.len()) & set(&mut rng, rows.len()), set(&mut rng, rows.len()));
@@ -98,7 +105,7 @@ fn bounds() {
 
 #[test]
 fn lists() {
-    let (mut rng, mut tally) = (Rng(33), Tally([0; 14]));
+    let (mut rng, mut tally) = (Rng(33), Tally::none());
     for _ in 0..many(10_000) {
         let (mut rows, k) = (table(&mut rng), slack(&mut rng));
         rows.truncate(if rng.chance(0.9) { 24 } else { 200 });
@@ -141,7 +148,7 @@ fn vertex(rng: &mut Rng, n: usize) -> usize {
 
 #[test]
 fn changes() {
-    let (mut rng, mut tally) = (Rng(36), Tally([0; 14]));
+    let (mut rng, mut tally) = (Rng(36), Tally::none());
     for _ in 0..many(20_000) {
         let (mut rows, k) = (table(&mut rng), slack(&mut rng));
         rows.truncate(if rng.chance(0.9) { 24 } else { 200 });
@@ -168,7 +175,7 @@ fn changes() {
 
 #[test]
 fn largest_plexes() {
-    let (mut rng, mut tally) = (Rng(35), Tally([0; 14]));
+    let (mut rng, mut tally) = (Rng(35), Tally::none());
     for _ in 0..many(10_000) {
         let (mut rows, k) = (table(&mut rng), slack(&mut rng));
         rows.truncate(if rng.chance(0.9) { 16 } else { 200 });
@@ -191,20 +198,21 @@ fn largest_plexes() {
 
 #[test]
 fn writing() {
-    let (mut rng, mut tally) = (Rng(34), Tally([0; 14]));
+    let (mut rng, mut tally) = (Rng(34), Tally::none());
     for _ in 0..many(10_000) {
-        let (rows, k) = (table(&mut rng), slack(&mut rng));
+        let rows = if rng.chance(0.5) { table(&mut rng) } else { linked(&mut rng, 2, 64) };
+        let k = slack(&mut rng);
         let (q, silent) = (floor(&mut rng, k), set(&mut rng, rows.len()));
         let needed = 24 + 17 * rows.len();
         let mut bytes = vec![0xC3; if rng.chance(0.5) { needed + rng.below(9) } else { rng.below(needed + 1) }];
-        let owed = refusals::request(&rows, k, q, silent).or_else(|| when(bytes.len() < needed, 9, needed));
+        let owed = refusals::writing(&rows, k, q, silent).or_else(|| when(bytes.len() < needed, 9, needed));
         let room = bytes.len();
         tally.hold(write_sheet(&rows, k, q, silent, &mut bytes), owed, || success(needed, 0));
         let written = if owed.is_some() { vec![] } else { text::write(&rows, k, q, silent) };
         assert_eq!(bytes[..written.len()], written);
         assert_eq!(bytes[written.len()..], vec![0xC3; room - written.len()]);
     }
-    tally.all_of(&[0, 1, 2, 3, 4, 5, 7, 9]);
+    tally.all_of(&[0, 1, 2, 3, 4, 5, 7, 9, 14]);
 }
 
 #[test]
@@ -249,14 +257,13 @@ fn the_order_of_causes_of_looseness() {
     }
 }
 
-/// What the list and writing are asked, with the chosen ones of the causes 1, 2, 3, 7, 4, 5, in one of four ways. But for the causes the graph has five
-/// vertices and no edge, and some of them are silent.
-fn faulty(causes: [bool; 6], empty: bool, way: usize) -> (Vec<u64>, usize, usize, u64) {
-    let [vertices, slack, floor, silent, row, one_way] = causes;
+/// The slack, floor and silent vertices of what the list and writing are asked of five vertices, with the chosen ones of the causes 2, 3, 7, in one of four
+/// ways.
+fn faulty([slack, floor, silent]: [bool; 3], way: usize) -> (usize, usize, u64) {
     let slack = if slack { [0, 6, 1 << 63, usize::MAX][way] } else { 1 };
     let floor = if floor { [0, 65, 1 << 63, usize::MAX][way] } else { 1 };
     let silent = if silent { [1 << 5, 1 << 63, u64::MAX, 0x30][way] } else { [0, 0x01, 0x10, 0x14][way] };
-    (faulty_rows([vertices, row, one_way], empty), slack, floor, silent)
+    (slack, floor, silent)
 }
 
 /// Every choice of the causes, in every way.
@@ -267,10 +274,11 @@ fn choices<const N: usize>() -> impl Iterator<Item = ([bool; N], bool, usize)> {
 
 #[test]
 fn the_order_of_causes_of_the_list() {
-    // 1, 2, 3, 7, 4, 5, and 6: each beside each other
-    let mut tally = Tally([0; 14]);
+    // 1, 2, 3, 7, 4, 5, and 6: each beside each other, of a graph without an edge
+    let mut tally = Tally::none();
     for (causes, empty, way) in choices::<7>() {
-        let (rows, k, q, silent) = faulty(std::array::from_fn(|i| causes[i]), empty, way);
+        let [vertices, slack, floor, silent, row, one_way, _] = causes;
+        let (rows, (k, q, silent)) = (faulty_rows([vertices, row, one_way], empty), faulty([slack, floor, silent], way));
         let want: Vec<u64> = (0..5).map(|v| 1 << v).filter(|s| s & silent == 0).collect();
         let garbage = vec![GARBAGE; if causes[6] { way.min(2) } else { 5 }];
         let owed = first_of([(1, 0), (2, 0), (3, 0), (7, 0), (4, 3), (5, 2), (6, want.len())], causes);
@@ -291,20 +299,24 @@ fn the_order_of_causes_of_the_list() {
 
 #[test]
 fn the_order_of_causes_of_writing() {
-    // 1, 2, 3, 7, 4, 5, and 9: each beside each other
-    let mut tally = Tally([0; 14]);
-    for (causes, empty, way) in choices::<7>() {
-        let (rows, k, q, silent) = faulty(std::array::from_fn(|i| causes[i]), empty, way);
+    // 1, 2, 3, 7, 4, 5, 14, and 9: each beside each other, of a graph in which but for 14 each vertex has a neighbour
+    let mut tally = Tally::none();
+    for (causes, empty, way) in choices::<8>() {
+        let [vertices, slack, floor, silent, row, one_way, isolated, short] = causes;
+        let rows = faulty_linked_rows([vertices, row, one_way, isolated], empty, way);
+        assert!(vertices || rows.iter().position(|&row| row == 0) == isolated.then_some(LOWEST_ISOLATED[way]));
+        let (k, q, silent) = faulty([slack, floor, silent], way);
         let needed = 24 + 17 * rows.len();
-        let before = vec![0xC3; if causes[6] { [0, 23, 24, needed - 1][way].min(needed - 1) } else { needed + way }];
-        let owed = first_of([(1, 0), (2, 0), (3, 0), (7, 0), (4, 3), (5, 2), (9, needed)], causes);
+        let before = vec![0xC3; if short { [0, 23, 24, needed - 1][way].min(needed - 1) } else { needed + way }];
+        let owed = first_of([(1, 0), (2, 0), (3, 0), (7, 0), (4, 3), (5, 2), (14, LOWEST_ISOLATED[way]), (9, needed)], causes);
+        assert!(short || owed == refusals::writing(&rows, k, q, silent));
         let mut bytes = before.clone();
         tally.hold(write_sheet(&rows, k, q, silent, &mut bytes), owed, || success(needed, 0));
         let after = if owed.is_some() { before } else { [&text::write(&rows, k, q, silent)[..], &before[needed..]].concat() };
         assert_eq!(bytes, after, "causes {causes:?}, way {way}");
     }
     println!("{:?}", tally.0);
-    assert!([0, 1, 2, 3, 4, 5, 7, 9].iter().all(|&number| tally.0[number] > 0));
+    assert!([0, 1, 2, 3, 4, 5, 7, 9, 14].iter().all(|&number| tally.0[number] > 0));
 }
 
 #[test]

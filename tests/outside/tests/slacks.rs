@@ -111,17 +111,22 @@ fn of_a_change_of_a_book() {
 
 #[test]
 fn of_writing_a_sheet() {
+    let (mut written, mut declined) = (0, 0);
     each(|rows, k| {
         for (q, short) in floors(k).into_iter().flat_map(|q| [(q, 0), (q, 1)]) {
             let needed = 24 + 17 * rows.len();
             let mut bytes = vec![0xC3; needed - short];
             let outcome = write_sheet(rows, k, q, 0x05, &mut bytes);
             hold_two(outcome.number, k);
-            let owed = refusals::request(rows, k, q, 0x05).or_else(|| when(short > 0, 9, needed));
+            let owed = refusals::writing(rows, k, q, 0x05).or_else(|| when(short > 0, 9, needed));
             assert_eq!(outcome, owed.map_or(success(needed, 0), refused));
             assert_eq!(bytes, if owed.is_some() { vec![0xC3; needed - short] } else { text::write(rows, k, q, 0x05) });
+            written += owed.is_none() as usize;
+            declined += (outcome.number == 14) as usize;
         }
     });
+    // the graph without an edge is the one that is declined
+    assert!(written > 0 && declined > 0);
 }
 
 #[test]
