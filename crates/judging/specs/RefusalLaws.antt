@@ -267,7 +267,7 @@ module _ (g : List ℕ) where
   unfolding floorCheck numberCheck floorCause
   floor-accepted k q e = within-range (2 * k - 1) mostVertices q (passed-head _ _ (passed-tail _ _ (passed-tail _ _ e)))
 
-  -- a request that passes has a slack and a floor that pass, and a silent set within the graph
+  -- a request that passes has a slack, a floor and a graph that pass, and a silent set within the graph
   module _ (ask : Request) (e : firstOf (requestCheck g ask) passed ≡ passed) where
     numbers : List Cause
     numbers = numberCheck (length g) (ask .slack) (ask .floor)
@@ -281,6 +281,9 @@ module _ (g : List ℕ) where
 
     pub request-slack : firstOf (slackCheck g (ask .slack)) passed ≡ passed
     request-slack = floor-slack (ask .slack) (ask .floor) request-floor
+
+    pub request-graph : firstOf (graphCheck g) passed ≡ passed
+    request-graph = slack-graph (ask .slack) request-slack
 
     pub silent-accepted : ask .silent < 2 ^ length g
     unfolding requestCheck numbers

@@ -9,8 +9,8 @@ use borrow.Author.Tests.{le-leb, lt-leb}
 use Rattle.judging.specs.Request.{Request}
 use Rattle.judging.specs.Refusal.{refused, answered, firstOf}
 use Rattle.judging.specs.Calls.{refusal, passed, requestCheck}
-use Rattle.judging.specs.RefusalLaws.{graph-sized, graph-checked, slack-graph, slack-accepted, floor-accepted}
-use Rattle.judging.specs.RefusalLaws.{request-slack, request-floor, silent-accepted}
+use Rattle.judging.specs.RefusalLaws.{graph-sized, graph-checked, slack-accepted, floor-accepted}
+use Rattle.judging.specs.RefusalLaws.{request-slack, request-floor, request-graph, silent-accepted}
 use Rattle.judging.specs.declared.Refusal.{Refusal}
 use Rattle.judging.specs.declared.Refusal.the-variants.{Slots}
 use Rattle.lists.specs.Listing.{listed, listing}
@@ -36,12 +36,11 @@ placed-short l slots h = rw (lt-leb (length l) (length slots) h)
 module _ (g : List ℕ) (ask : Request) where
   pub accepted-holds : firstOf (requestCheck g ask) passed ≡ passed → Accepted g ask
   accepted-holds e =
-      let s = request-slack g ask e in
       let f = floor-accepted g (ask .slack) (ask .floor) (request-floor g ask e) in
-      let h = slack-accepted g (ask .slack) s in
+      let h = slack-accepted g (ask .slack) (request-slack g ask e) in
       record {
-        sized = graph-sized g (slack-graph g (ask .slack) s);
-        valid = graph-checked g (slack-graph g (ask .slack) s);
+        sized = graph-sized g (request-graph g ask e);
+        valid = graph-checked g (request-graph g ask e);
         slack = h;
         floor = (omega (arith, f .0, h .0), omega (arith, f .1));
         silent = silent-accepted g ask e;

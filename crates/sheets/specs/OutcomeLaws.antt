@@ -11,7 +11,7 @@ use Rattle.judging.specs.Request.{Request}
 use Rattle.judging.specs.Refusal.{Reply, refused, answered, Cause, firstOf, graphCauses}
 use Rattle.judging.specs.Calls.{passed, graphCheck, numberCheck, requestCheck}
 use Rattle.judging.specs.RefusalLaws.{first-append, first-passed, first-holds, first-skips, answered-value}
-use Rattle.judging.specs.RefusalLaws.{vertices-accepted, graph-checked, slack-graph, request-slack}
+use Rattle.judging.specs.RefusalLaws.{vertices-accepted, graph-checked, request-graph}
 use Rattle.sheets.specs.Sheet.{rowDigits, rowLength, sheetLength, sheetText, vertexField, slackField, floorField, body, Sheet, sheet, sheetOf}
 use Rattle.sheets.specs.Sheet.{Linked, isolatedCause, fieldCauses, setCauses, roomCause, reading, sheetCheck, writing, over, textAfter}
 use Rattle.sheets.specs.OverLaws.{over-front}
@@ -26,7 +26,7 @@ use Rattle.sheets.specs.WriteLaws.{sheet-length, accepted-writes}
 
 module _ (g : List ℕ) (ask : Request) (e : firstOf (sheetCheck g ask) passed ≡ passed) where
   graph-passed : firstOf (graphCheck g) passed ≡ passed
-  graph-passed = slack-graph g (ask .slack) (request-slack g ask (passed-request g ask e))
+  graph-passed = request-graph g ask (passed-request g ask e)
 
   passed-linked : Linked g
   passed-linked = clear-linked g (graph-checked g graph-passed) (passed-isolated g ask e)
@@ -132,7 +132,7 @@ module _ (g : List ℕ) (ask : Request) (e : firstOf (requestCheck g ask) passed
   -- a sheet of one vertex is always declined
   module _ (one : length g ≡ 1) where
     alone : row g 0 ≡ 0
-    alone = one-isolated g (graph-checked g (slack-graph g (ask .slack) (request-slack g ask e))) one
+    alone = one-isolated g (graph-checked g (request-graph g ask e)) one
 
     pub one-unwritten : (bytes : ℕ) → writing g ask bytes ≡ refused 14 0
     one-unwritten = isolated-unwritten 0 (omega arith) alone (λ b l. absurd (omega arith))

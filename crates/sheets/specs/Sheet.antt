@@ -119,7 +119,7 @@ linesCause m b = let a = rightLines rowDigits m b in lineCause (ltb a m || ltb (
 unfoldable pub isolated : List ℕ → ℕ → Bool
 isolated g a = eqb (row g a) 0
 
--- every vertex has a neighbour
+-- every vertex has a neighbour (document 02: every stop has a link)
 abbrev pub Linked : List ℕ → Type 0
 Linked g = (a : ℕ) → a < length g → (b : ℕ) × (b < length g) × T (adjacent g a b)
 

@@ -20,7 +20,7 @@ use Rattle.judging.specs.Calls.{passed, numberCheck, floorCheck, requestCheck}
 use Rattle.judging.specs.RefusalLaws.{first-append, first-holds, first-skips, first-passed, answered-passed, answered-value, answered-found}
 use Rattle.judging.specs.RefusalLaws.{passed-head, passed-tail, passed-front, passed-back}
 use Rattle.judging.specs.RefusalLaws.{vertices-accepted, graph-checked, slack-accepted, slack-graph, floor-slack, floor-accepted}
-use Rattle.judging.specs.RefusalLaws.{request-floor, silent-accepted}
+use Rattle.judging.specs.RefusalLaws.{request-floor, request-graph, silent-accepted}
 use Rattle.sheets.specs.Digits.{isDigit, digits, number}
 use Rattle.sheets.specs.Lines.{newline, line, lines, isLine, field, rightLines, numbers}
 use Rattle.sheets.specs.Sheet.{headingDigits, rowDigits, rowLength, sheetLength, headingText, sheetText, formerText}
@@ -276,7 +276,7 @@ module _ (g : List ℕ) (ask : Request) (e : firstOf (requestCheck g ask) passed
       let k = ask .slack in
       let floor = request-floor g ask e in
       let f = field-fits g k (ask .floor) floor in
-      let checked = slack-graph g k (floor-slack g k (ask .floor) floor) in
+      let checked = request-graph g ask e in
       let most : 2 ^ length g ≤ 2 ^ mostVertices = pow-mono {i = length g} {j = mostVertices} (vertices-accepted g checked .1) in
       reads-written g ask room (f .0) (f .1) (f .2) (lt-of-lt-of-le (silent-accepted g ask e) most)
       (λ a h. lt-of-lt-of-le (graph-checked g checked .low a h) most)

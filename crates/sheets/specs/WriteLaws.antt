@@ -10,7 +10,7 @@ use Rattle.sets.specs.Words.{width}
 use Rattle.judging.specs.Request.{Request}
 use Rattle.judging.specs.Refusal.{Reply, answered, firstOf}
 use Rattle.judging.specs.Calls.{passed, checkedReply, refusal}
-use Rattle.judging.specs.RefusalLaws.{first-append, first-holds, first-skips, first-passed, graph-sized, slack-graph, request-slack}
+use Rattle.judging.specs.RefusalLaws.{first-append, first-holds, first-skips, first-passed, graph-sized, request-graph}
 use Rattle.judging.specs.CallLaws.{check-failed}
 use Rattle.judging.specs.declared.Refusal.{Refusal}
 use Rattle.judging.specs.declared.Refusal.the-variants.{Room}
@@ -56,7 +56,7 @@ write-refused {g} {ask} {t} {r} {f} p e =
 
 module _ (g : List ℕ) (ask : Request) (e : firstOf (sheetCheck g ask) passed ≡ passed) where
   pub graph-fits : length g ≤ width
-  graph-fits = graph-sized g (slack-graph g (ask .slack) (request-slack g ask (passed-request g ask e))) .most
+  graph-fits = graph-sized g (request-graph g ask (passed-request g ask e)) .most
 
   room-left : (bytes : ℕ) {n : ℕ} → n ≡ length g → writing g ask bytes ≡ fitting bytes n
   room-left bytes c =
