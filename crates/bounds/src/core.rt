@@ -12,14 +12,14 @@ ghost use Rattle.bounds.specs.PassSetting.{Doubtable, Passes};
 use sets::Set;
 
 // The core, and the number of passes that it took.
-#[derive(Drop)]
+#[derive(Clone, Copy)]
 pub struct Peeled {
     pub core: Set,
     pub passes: usize,
 }
 
 // What a pass leaves, and those of it that are in doubt.
-#[derive(Drop)]
+#[derive(Clone, Copy)]
 struct Passed {
     pub kept: Set,
     pub doubt: Set,

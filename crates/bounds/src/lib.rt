@@ -1,4 +1,5 @@
 // The core of a graph, the two-hop reach of a vertex, and the bounds on the size of a k-plex, with the calls that give them.
+#![tactic(auto)]
 ghost use Rattle.core.specs.Prelude.{◌≡◌, ◌<◌, length};
 ghost use Rattle.sets.specs.Words.{masks, mask};
 ghost use Rattle.bounds.specs.Calls.{core_found_reply, core_reply, reach_found_reply, reach_reply};
@@ -16,14 +17,14 @@ use judging::{Checked, Refusal};
 use sets::Set;
 
 // The answer to a question for the core.
-#[derive(Drop)]
+#[derive(Clone, Copy)]
 pub enum CoreFound {
     Core(Peeled),
     Refused(Refusal),
 }
 
 // The answer to a question for a reach.
-#[derive(Drop)]
+#[derive(Clone, Copy)]
 pub enum ReachFound {
     Reach(Set),
     Refused(Refusal),
@@ -61,7 +62,7 @@ pub fn find_reach(rows: &[u64], v: usize) -> ReachFound
 }
 
 // The answer to a question for a bound.
-#[derive(Drop)]
+#[derive(Clone, Copy)]
 pub enum BoundFound {
     Bound(usize),
     Refused(Refusal),

@@ -1,4 +1,5 @@
 // Graphs in the DIMACS form: comment lines, a line `p edge n m`, and a line `e u v` for each edge, with vertices from 1.
+#![tactic(auto)]
 ghost use Rattle.std.specs.Prelude.{◌≡◌, List, [], ℕ};
 ghost use Rattle.sets.specs.Words.{width, masks};
 ghost use Rattle.judging.specs.Refusal.{Reply, answered};
@@ -16,14 +17,14 @@ use judging::Refusal;
 use state::{Progress, Step};
 
 // The answer to reading a graph: how many vertices it has.
-#[derive(Drop)]
+#[derive(Clone, Copy)]
 pub enum DimacsRead {
     Read(usize),
     Refused(Refusal),
 }
 
 // What comes of all lines: the progress, and the number of the line after the last.
-#[derive(Drop)]
+#[derive(Clone, Copy)]
 enum Scan {
     Ended { number: usize, progress: Progress },
     Refused(Refusal),

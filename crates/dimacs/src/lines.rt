@@ -6,7 +6,7 @@ ghost use Rattle.dimacs.specs.Setting.{figure_value, kind_told, capped_kind, Fir
 use crate::figures;
 
 // What a line is. A number above MOST_EDGES is told as one more than that.
-#[derive(Drop)]
+#[derive(Clone, Copy)]
 pub enum Kind {
     Comment,
     Problem { vertices: usize, edges: usize },
@@ -15,14 +15,14 @@ pub enum Kind {
 }
 
 // A line: what it is, and where the next one starts.
-#[derive(Drop)]
+#[derive(Clone, Copy)]
 pub struct Line {
     pub kind: Kind,
     pub next: usize,
 }
 
 // The values of two figures parted by a blank.
-#[derive(Drop)]
+#[derive(Clone, Copy)]
 struct Pair {
     first: usize,
     second: usize,

@@ -6,7 +6,7 @@ ghost use Rattle.dimacs.specs.Setting.{FirstLine};
 use crate::lines;
 use crate::lines::Line;
 
-#[derive(Drop)]
+#[derive(Clone, Copy)]
 pub struct Reader<'a> {
     pub text: &'a [u8],
     pub at: usize,

@@ -9,7 +9,7 @@ use crate::lines::Kind;
 use judging::{Refusal, check};
 
 // What the lines so far have said: n and m, which are 0 before the p line, and how many e lines there were.
-#[derive(Drop)]
+#[derive(Clone, Copy)]
 pub struct Progress {
     pub vertices: usize,
     pub edges: usize,
@@ -17,7 +17,7 @@ pub struct Progress {
 }
 
 // What comes of a line.
-#[derive(Drop)]
+#[derive(Clone, Copy)]
 pub enum Step {
     Next(Progress),
     Refused(Refusal),

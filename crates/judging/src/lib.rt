@@ -1,4 +1,5 @@
 // The graph: valid tables, refusals, k-plexes and maximal k-plexes, and the calls that judge a set.
+#![tactic(auto)]
 ghost use Rattle.std.specs.Prelude.{◌≡◌};
 ghost use Rattle.sets.specs.Words.{mask, masks};
 ghost use Rattle.judging.specs.Calls.{number_of, value_of, looseness_found_reply, looseness_reply, judged_reply, maximal_reply};
@@ -10,7 +11,7 @@ pub mod survey;
 use sets::Set;
 
 // Why a call declines. `number_of` and `value_of` in specs/Calls.antt give document 01's number and value.
-#[derive(Drop)]
+#[derive(Clone, Copy)]
 pub enum Refusal {
     Vertices,
     Slack,
@@ -31,21 +32,21 @@ pub enum Refusal {
 }
 
 // The outcome of a check of the input.
-#[derive(Drop)]
+#[derive(Clone, Copy)]
 pub enum Checked {
     Passed,
     Failed(Refusal),
 }
 
 // The answer to: how loose is this set?
-#[derive(Drop)]
+#[derive(Clone, Copy)]
 pub enum LoosenessFound {
     Looseness(usize),
     Refused(Refusal),
 }
 
 // The answer to a question about a set.
-#[derive(Drop)]
+#[derive(Clone, Copy)]
 pub enum Judged {
     Yes,
     No,
@@ -53,7 +54,7 @@ pub enum Judged {
 }
 
 // What is asked of a graph: the slack k, the floor q, and the silent vertices, which do not count at the floor.
-#[derive(Drop)]
+#[derive(Clone, Copy)]
 pub struct Request {
     pub slack: usize,
     pub floor: usize,

@@ -9,7 +9,7 @@ use sets::Set;
 
 // What the pass finds: `most` is the looseness of the set, `worst` a member that misses so many,
 // and `free` the vertices outside that each member that misses k or more is adjacent to.
-#[derive(Drop)]
+#[derive(Clone, Copy)]
 pub struct Findings {
     pub most: usize,
     pub worst: usize,

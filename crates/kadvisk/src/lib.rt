@@ -1,5 +1,6 @@
 // The library for C and Rust: every public call on numbers and lent buffers, each answered by a plain struct. None asks anything of its caller
 // beyond what its types say.
+#![tactic(auto)]
 ghost use Rattle.std.specs.Prelude.{◌≡◌};
 ghost use Rattle.sets.specs.Words.{masks};
 ghost use Rattle.judging.specs.Request.{request, asked};
@@ -19,7 +20,7 @@ use search::Cuts;
 // The outcome of a call. `number` is 0 for a success and else document 01's number of the refusal. `found` is what a question found: a looseness, 1 or 0
 // for yes or no, a set's mask, a bound; it is 0 with a refusal, and where `value` says all. Of a largest k-plex `value` is the size and `found` the mask.
 #[repr(C)]
-#[derive(Drop)]
+#[derive(Clone, Copy)]
 pub struct Outcome {
     pub number: usize,
     pub value: usize,
@@ -28,7 +29,7 @@ pub struct Outcome {
 
 // The outcome of a question for the core: of a success its mask, and the number of passes that it took. Both are 0 with a refusal.
 #[repr(C)]
-#[derive(Drop)]
+#[derive(Clone, Copy)]
 pub struct CoreOutcome {
     pub number: usize,
     pub value: usize,
@@ -38,7 +39,7 @@ pub struct CoreOutcome {
 
 // The outcome of reading a sheet: of a success n, the slack, the floor and the mask of the silent vertices, which are 0 with a refusal.
 #[repr(C)]
-#[derive(Drop)]
+#[derive(Clone, Copy)]
 pub struct ReadOutcome {
     pub number: usize,
     pub value: usize,

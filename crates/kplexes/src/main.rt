@@ -1,5 +1,6 @@
 // Lists all maximal k-plexes of the graph on the sheet that it reads from standard input.
 // Reads, calls and writes: `answers::answer` decides every byte.
+#![tactic(auto)]
 use libc::{STDIN_FILENO, STDOUT_FILENO};
 
 // One byte more than the longest sheet has.

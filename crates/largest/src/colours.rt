@@ -53,7 +53,7 @@ fn smaller(a: usize, b: usize) -> usize
 }
 
 // How many vertices a k-plex can have of a set and of the candidates that are not left.
-#[derive(Drop)]
+#[derive(Clone, Copy)]
 struct Count {
     pub most: usize,
     pub left: Set,

@@ -1,4 +1,5 @@
 // The search for all maximal k-plexes, and the call that lists them.
+#![tactic(auto)]
 ghost use Rattle.core.specs.Prelude.{◌≡◌, ◌^◌, ◌<◌, length};
 ghost use Rattle.sets.specs.Words.{mask, masks};
 ghost use Rattle.judging.specs.Request.{request, asked};
@@ -21,14 +22,14 @@ use judging::{Checked, Refusal, Request};
 use sets::Set;
 
 // The answer of the call that lists: m, or why it declines.
-#[derive(Drop)]
+#[derive(Clone, Copy)]
 pub enum ListFound {
     Listed(usize),
     Refused(Refusal),
 }
 
 // The cuts, each with its switch. Every setting gives the same list.
-#[derive(Drop)]
+#[derive(Clone, Copy)]
 pub struct Cuts {
     pub core: bool,
     pub reach: bool,

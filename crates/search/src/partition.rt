@@ -9,7 +9,7 @@ ghost use Rattle.search.specs.Partition.{Between, Picked};
 use sets::Set;
 
 // The member that misses most, how many it misses, and the other members that miss more than k.
-#[derive(Drop)]
+#[derive(Clone, Copy)]
 struct Choice {
     pub best: usize,
     pub most: usize,

@@ -1,5 +1,7 @@
 // Sets of vertices, and every operation on one. This is the only crate with bit arithmetic: the others
 // touch a set through these functions, and their contracts speak of its mask.
+#![tactic(auto)]
+
 ghost use Rattle.std.specs.Prelude.{◌≡◌, ◌^◌, ◌*◌, ◌<◌, ◌≤◌, min, max, cond, eqb, ltb, length, set};
 ghost use Rattle.std.specs.Int.Bits.{bit_and, bit_or};
 ghost use Rattle.sets.specs.Set.{bit, has, size, subset, with, minus, without, full};
@@ -7,7 +9,7 @@ ghost use Rattle.sets.specs.Words.{width, per_set, mask, masks, word_of, Lowest}
 ghost use Rattle.sets.specs.Graph.{row};
 
 // A set of vertices: v is a member where the bit of value 2^v is set.
-#[derive(Drop)]
+#[derive(Clone, Copy)]
 pub struct Set {
     pub word: u64,
 }

@@ -1,5 +1,6 @@
 // Sheets: a graph with a request as text. Line 1 has n, k and q, two digits each; then the silent set, and then each row, has a line of 16 digits.
 // A graph with an isolated vertex has none: it is declined.
+#![tactic(auto)]
 ghost use Rattle.std.specs.Prelude.{◌≡◌};
 ghost use Rattle.sets.specs.Words.{masks};
 ghost use Rattle.judging.specs.Request.{asked};
@@ -17,14 +18,14 @@ pub mod lines;
 use judging::{Checked, Refusal, Request, check};
 
 // The answer to reading a sheet: how many vertices its graph has, and its request.
-#[derive(Drop)]
+#[derive(Clone, Copy)]
 pub enum SheetRead {
     Read { vertices: usize, request: Request },
     Refused(Refusal),
 }
 
 // The answer to writing a sheet: its length.
-#[derive(Drop)]
+#[derive(Clone, Copy)]
 pub enum SheetWritten {
     Written(usize),
     Refused(Refusal),

@@ -10,7 +10,7 @@ use judging::Request;
 use judging::check::MOST_SLACK;
 
 // Two vertices, and whether they are adjacent afterwards.
-#[derive(Drop)]
+#[derive(Clone, Copy)]
 pub struct Change {
     pub a: usize,
     pub b: usize,

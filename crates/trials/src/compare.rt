@@ -148,7 +148,7 @@ fn graph(cases: Tally, rows: &[u64]) -> Tally {
 }
 
 // The call that is compared.
-#[derive(Drop)]
+#[derive(Clone, Copy)]
 pub enum Call {
     List,
     Largest,

@@ -13,7 +13,7 @@ const TEXT: usize = ROWS_AT + MOST_ROWS * LINE_LENGTH;
 const LENGTH_OF_1: usize = ROWS_AT + LINE_LENGTH;
 
 // What is done with a sheet.
-#[derive(Drop)]
+#[derive(Clone, Copy)]
 pub enum Way {
     Read,
     Write,

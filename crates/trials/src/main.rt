@@ -2,6 +2,7 @@
 // of some silent sets for graphs of 1 to 12, for graphs of 1 to 10 the largest k-plex with each set forced, how loose each set is, and the core of each slack
 // and floor with its passes, and for graphs of 2 to 14 the list after each of some changes. Prints a line for each group: how many cases it has, and how many
 // of them differ. Where an answer differs, its graph is printed as the text of a sheet, also where it has no sheet.
+#![tactic(auto)]
 mod all_sets;
 mod change_edges;
 mod change_refusals;

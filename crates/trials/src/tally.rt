@@ -1,7 +1,7 @@
 // How many cases were run, and how many differ from what they should be.
 use libc::STDOUT_FILENO;
 
-#[derive(Drop)]
+#[derive(Clone, Copy)]
 pub struct Tally {
     pub cases: u64,
     pub different: u64,

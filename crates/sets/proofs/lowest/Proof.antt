@@ -5,7 +5,7 @@ use Rattle.sets.specs.Words.Operations.{lowest_mask}
 use Rattle.sets.proofs.lowest.Statement.{statement}
 use Rattle.sets.proofs.lowest.Tie as tie
 
-cast_result : tie.Need-overflow-cast-result
+cast_result : tie.Need-overflow_cast-result
 cast_result c = omega (arith, trailing_le 64 c.before.args.s.word)
 
 returns : tie.Need-returns

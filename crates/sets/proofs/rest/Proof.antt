@@ -6,7 +6,7 @@ use Rattle.sets.specs.Words.Operations.{nonzero_word, rest_mask}
 use Rattle.sets.proofs.rest.Statement.{statement}
 use Rattle.sets.proofs.rest.Tie as tie
 
-sub_word : tie.Need-overflow-sub-word
+sub_word : tie.Need-overflow_sub-word
 sub_word c = nonzero_word c.before.args.s (positive (mask c.before.args.s) c.before.args.v c.before.requires.member)
 
 returns : tie.Need-returns

@@ -4,7 +4,7 @@ use Rattle.sets.specs.Words.Operations.{size_mask}
 use Rattle.sets.proofs.size.Statement.{statement}
 use Rattle.sets.proofs.size.Tie as tie
 
-cast_result : tie.Need-overflow-cast-result
+cast_result : tie.Need-overflow_cast-result
 cast_result c = omega (arith, size_mask c.before.args.s (omega arith, tt))
 
 returns : tie.Need-returns
