@@ -84,5 +84,6 @@ keep_rising p i (suc m) = go (p i) (keep_rising p (suc i) m)
     go false r = lower (suc i) i (keep p (from (suc i) m)) (omega arith) r
 
 pub rising_above : (b v : ℕ) (xs : List ℕ) → Rising b xs → Mem v xs → b ≤ v
+rising_above b v [] r k = elim k [ ]
 rising_above b v (x ∷ xs) r (Memᴰ.head e) = omega (arith, r.0)
 rising_above b v (x ∷ xs) r (Memᴰ.tail k) = omega (arith, r.0, rising_above (suc x) v xs r.1 k)

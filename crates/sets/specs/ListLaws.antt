@@ -53,6 +53,7 @@ greatest_le f (x ∷ xs) b h = omega (arith, h x (Memᴰ.head refl), greatest_le
 
 pub greatest_ge : (f : ℕ → ℕ) (xs : List ℕ) (x : ℕ) → Mem x xs → f x ≤ greatest f xs
 unfolding greatest
+greatest_ge f [] x k = elim k [ ]
 greatest_ge f (y ∷ ys) x (Memᴰ.head e) = omega (arith, ap f e)
 greatest_ge f (y ∷ ys) x (Memᴰ.tail m) = omega (arith, greatest_ge f ys x m)
 
