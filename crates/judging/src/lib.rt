@@ -1,5 +1,6 @@
 // The graph: valid tables, refusals, k-plexes and maximal k-plexes, and the calls that judge a set.
 #![tactic(auto)]
+
 ghost use Rattle.std.specs.Prelude.{◌≡◌};
 ghost use Rattle.sets.specs.Words.{mask, masks};
 ghost use Rattle.judging.specs.Calls.{number_of, value_of, looseness_found_reply, looseness_reply, judged_reply, maximal_reply};
