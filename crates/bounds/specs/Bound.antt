@@ -11,7 +11,7 @@
 --   kept g s sp b us        how many of us the second bound keeps, from the supports sp and the running total b on
 --   second_bound g k s c v   the second bound (001, Algorithm 1)
 --   largest g k s c v       the size of the largest k-plex that holds s and v and has no vertex outside s and c
-use Rattle.core.specs.Prelude.{ℕ, suc, ◌+◌, ◌-◌, ◌^◌, cond, not, ◌&&◌, List, [], ◌∷◌, map, length, ◌==◌, bit_or, nat_eq, nat_le, nat_lt, slice_index, slice_set}
+use Rattle.std.specs.Prelude.{ℕ, suc, ◌+◌, ◌-◌, ◌^◌, cond, not, ◌&&◌, List, [], ◌∷◌, map, length, ◌==◌, bit_or, nat_eq, nat_le, nat_lt, slice_index, slice_set}
 use Rattle.sets.specs.Ranges.{range, keep, total, joined, greatest}
 use Rattle.sets.specs.Set.{has, size, subset, with, members}
 use Rattle.judging.specs.Graph.{adjacent, missing}

@@ -1,5 +1,5 @@
 -- From the checks of the code to the replies: the causes in their order, and what is known of an input that passes.
-use Rattle.core.specs.Prelude.{◌≡◌, ℕ, ◌^◌, ◌<◌, ◌≤◌, Bool, true, false, not, ◌||◌, ltb, List, [], ◌∷◌, ◌++◌, length, ◌==◌, nat_eq, nat_lt}
+use Rattle.std.specs.Prelude.{◌≡◌, ℕ, ◌^◌, ◌<◌, ◌≤◌, Bool, true, false, not, ◌||◌, ltb, List, [], ◌∷◌, ◌++◌, length, ◌==◌, nat_eq, nat_lt}
 use Rattle.std.proofs.Common.{arith, ◌∙◌, append_assoc, le-leb, le-ltb, lt-ltb, ltb-false, eqb-true}
 use Rattle.std.specs.Prelude.{refl}
 use Rattle.std.proofs.Math.Path.{sym, ap, ap₂}

@@ -5,7 +5,7 @@
 --   bound_check g k s c v         the causes 1, 2, 4, 5, 7 and 10
 --   first_bound_reply g k s c v    the answer to: what is the first bound?
 --   second_bound_reply g k s c v   the answer to: what is the second bound?
-use Rattle.core.specs.Prelude.{ℕ, Bool, not, ◌||◌, List, [], ◌∷◌, ◌++◌, ◌==◌, bit_and, nat_lt}
+use Rattle.std.specs.Prelude.{ℕ, Bool, not, ◌||◌, List, [], ◌∷◌, ◌++◌, ◌==◌, bit_and, nat_lt}
 use Rattle.sets.specs.Set.{has, with}
 use Rattle.judging.specs.Plex.{looseness}
 use Rattle.judging.specs.Refusal.{Reply, answered, Cause, cause, first_cause, set_cause, vertex_out_cause}

@@ -1,6 +1,6 @@
 -- Neither bound is below the size of a k-plex m that holds s and v and has no vertex outside s and c: the neighbours of v that m adds to s are a
 -- choice that every member has the support for.
-use Rattle.core.specs.Prelude.{◌≡◌, ℕ, ◌+◌, ◌^◌, ◌<◌, ◌≤◌, Bool, ◌&&◌, List, map, length}
+use Rattle.std.specs.Prelude.{◌≡◌, ℕ, ◌+◌, ◌^◌, ◌<◌, ◌≤◌, Bool, ◌&&◌, List, map, length}
 use Rattle.std.proofs.Common.{le_trans, ◌∙◌}
 use native.Mathlib.Omega.{arith}
 use Rattle.std.specs.Int.Bits.{bit_and, bit_or}

@@ -1,5 +1,5 @@
 -- From the checks to the replies: what is known of an input that passes, and what the calls for the core and the reach then answer.
-use Rattle.core.specs.Prelude.{◌≡◌, ℕ, ◌-◌, ◌<◌, ◌≤◌, List, [], ◌∷◌, length}
+use Rattle.std.specs.Prelude.{◌≡◌, ℕ, ◌<◌, ◌≤◌, List, [], ◌∷◌, length}
 use Rattle.std.proofs.Common.{arith, ◌∙◌, le-leb}
 use Rattle.std.proofs.Math.Path.{sym, ap}
 use Rattle.sets.specs.Set.{full}

@@ -3,7 +3,7 @@
 --   core_reply g k q   the core of the graph for the slack k and the floor q, and the passes that peel it out
 --   reach_reply g v    the two-hop reach of the vertex v
 --   core_found_reply, reach_found_reply   the answers of the code as replies
-use Rattle.core.specs.Prelude.{ℕ, ◌-◌, List, [], ◌∷◌, ◌++◌}
+use Rattle.std.specs.Prelude.{ℕ, ◌-◌, List, [], ◌∷◌, ◌++◌}
 use Rattle.sets.specs.Words.{mask}
 use Rattle.judging.specs.Refusal.{Reply, answered, Cause, first_cause, vertex_out_cause}
 use Rattle.judging.specs.Calls.{refusal, graph_check, floor_check}

@@ -9,7 +9,7 @@
 --   leave i g m s      what i passes leave of s
 --   passes g m s       how many passes there are from s on, up to the first that takes none, which counts
 --   peeling g m        the core, and the passes from all vertices on
-use Rattle.core.specs.Prelude.{ℕ, zero, suc, ◌^◌, ◌<◌, ◌≤◌, Bool, cond, ◌&&◌, leb, List, length, ◌==◌, nat_le}
+use Rattle.std.specs.Prelude.{ℕ, zero, suc, ◌^◌, ◌<◌, ◌≤◌, Bool, cond, ◌&&◌, leb, List, length, ◌==◌, nat_le}
 use Rattle.sets.specs.Ranges.{range, all, any}
 use Rattle.sets.specs.Set.{has, In, size, subset, without, full, members, set_of}
 use Rattle.judging.specs.Graph.{degree}

@@ -1,5 +1,5 @@
 -- Laws of the core, of the whole graph and within a set: it is dense, it holds every dense set, and nothing else is both; large plexes lie in it.
-use Rattle.core.specs.Prelude.{◌≡◌, ℕ, ◌+◌, ◌-◌, ◌^◌, ◌<◌, ◌≤◌, Bool, ◌&&◌, T, List, length, nat_le}
+use Rattle.std.specs.Prelude.{◌≡◌, ℕ, ◌+◌, ◌-◌, ◌^◌, ◌<◌, ◌≤◌, Bool, ◌&&◌, T, List, length, nat_le}
 use Rattle.std.proofs.Common.{le_trans, arith, leb→le, le→leb}
 use Rattle.sets.specs.Ranges.{range, any}
 use Rattle.sets.specs.Set.{bit, has, In, Sub, size, subset, full, set_of, with}

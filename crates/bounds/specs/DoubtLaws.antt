@@ -4,7 +4,7 @@
 --   Looked v e d e' d'             a look at v takes what is sure from the vertices below e outside d to those below e' outside d'
 --   FirstPass g m s v kept doubt   the first pass has gone by the vertices below v
 --   LaterPass g m s kept left ..   a later pass has come to some vertex: left is still to be looked at, and next in the next pass
-use Rattle.core.specs.Prelude.{◌≡◌, ℕ, suc, ◌+◌, ◌*◌, ◌^◌, ◌<◌, ◌≤◌, List, length}
+use Rattle.std.specs.Prelude.{◌≡◌, ℕ, suc, ◌+◌, ◌*◌, ◌^◌, ◌<◌, ◌≤◌, List, length}
 use Rattle.std.proofs.Common.{le_refl, le_trans, lt_of_not-le, le_of_suc-le-suc, le_antisymm, not-suc-le-zero, suc-mul, mul-le-mul_right, arith, sym, ap, subst, ◌∙◌}
 use Rattle.std.specs.Prelude.{refl}
 use Rattle.std.specs.Int.Bits.{bit_and, bit_or}
@@ -18,7 +18,7 @@ use Rattle.sets.specs.SubsetLaws.{in_below, in_of_sub, sub_below}
 use Rattle.sets.specs.WordLaws.{bit-full, bit-full_out}
 use Rattle.sets.specs.WalkLaws.{without_less}
 use Rattle.judging.specs.Graph.{degree, Valid}
-use Rattle.bounds.specs.Core.{look, pass_to, pass}
+use Rattle.bounds.specs.Core.{pass_to, pass}
 use Rattle.bounds.specs.PassSetting.{Sure, Doubtable, Passes}
 use Rattle.bounds.specs.PassLaws.{look_stays, look_goes, look_none, pass_to_next, pass_to_same}
 

@@ -1,7 +1,7 @@
 -- Common neighbours of two vertices.
 --
 --   common g s u v   how many members of s are adjacent to both u and v
-use Rattle.core.specs.Prelude.{ℕ, List, bit_and}
+use Rattle.std.specs.Prelude.{ℕ, List, bit_and}
 use Rattle.sets.specs.Set.{size}
 use Rattle.sets.specs.Graph.{row}
 

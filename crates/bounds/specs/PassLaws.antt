@@ -2,7 +2,7 @@
 -- within t. There is at least one, each but the last takes a vertex, and so they are at most one more than the vertices taken out.
 --
 --   HoldsDense g m t s   s is a part of t, and holds every dense set within t
-use Rattle.core.specs.Prelude.{◌≡◌, ℕ, zero, suc, ◌+◌, ◌^◌, ◌<◌, ◌≤◌, Bool, true, false, cond, List, length, ◌==◌, ◌≢◌, nat_le}
+use Rattle.std.specs.Prelude.{◌≡◌, ℕ, zero, suc, ◌+◌, ◌^◌, ◌<◌, ◌≤◌, Bool, true, false, cond, List, length, ◌==◌, ◌≢◌, nat_le}
 use Rattle.std.proofs.Common.{le_refl, lt_of_not-le, eq-or-lt_of_le, add-one, subst, ◌∙◌, leb-true, leb-false, eqb-true, eq-eqb, ne_eqb}
 use native.Mathlib.Omega.{arith}
 use Rattle.std.proofs.Math.Path.{refl, sym, ap}

@@ -3,7 +3,7 @@
 --   Sure g m e s d       each member of s below e that is not in d is adjacent to at least m members of s
 --   Doubtable g m s d    a pass through s need only look at d, and at what loses a neighbour on the way
 --   Passes g m s r d     r is what a pass leaves of s, and the next need only look at d
-use Rattle.core.specs.Prelude.{◌≡◌, ℕ, ◌<◌, ◌≤◌, List, length}
+use Rattle.std.specs.Prelude.{◌≡◌, ℕ, ◌<◌, ◌≤◌, List, length}
 use Rattle.sets.specs.Set.{bit, In, Sub}
 use Rattle.judging.specs.Graph.{degree}
 use Rattle.judging.specs.Setting.{Judgeable}

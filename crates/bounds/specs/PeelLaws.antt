@@ -2,7 +2,7 @@
 -- A pass that takes none shows that s is the core within t, and that all are counted.
 --
 --   Peels g m t s kept doubt n   n passes have been made from t on, the last from s to kept
-use Rattle.core.specs.Prelude.{◌≡◌, ℕ, ◌+◌, ◌<◌, ◌≤◌, List, length}
+use Rattle.std.specs.Prelude.{◌≡◌, ℕ, ◌+◌, ◌<◌, ◌≤◌, List, length}
 use Rattle.std.proofs.Common.{arith, sym, ap, subst, ◌∙◌, pow_pos}
 use Rattle.std.specs.Prelude.{refl}
 use Rattle.std.specs.Int.Count.{ones-ones}

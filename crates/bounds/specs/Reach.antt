@@ -1,7 +1,7 @@
 -- The two-hop reach of a vertex (document 01: the reach of a stop).
 --
 --   reach g a   the vertices at most two edges away from a, a itself included
-use Rattle.core.specs.Prelude.{ℕ, ◌||◌, List, length, ◌==◌}
+use Rattle.std.specs.Prelude.{ℕ, ◌||◌, List, length, ◌==◌}
 use Rattle.sets.specs.Ranges.{any}
 use Rattle.sets.specs.Set.{members, set_of}
 use Rattle.sets.specs.Graph.{row}

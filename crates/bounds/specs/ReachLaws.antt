@@ -1,7 +1,7 @@
 -- Laws of the two-hop reach: which vertices it holds; a large plex lies in the reach of each member, as two members have a common neighbour.
 --
 --   Reaching g a left s   a walk through the neighbours of a in progress: those in left are still to come, and s is what was found so far
-use Rattle.core.specs.Prelude.{◌≡◌, ℕ, ◌+◌, ◌*◌, ◌^◌, ◌<◌, ◌≤◌, Bool, ◌||◌, T, ◌⊎◌, List, length, ◌==◌}
+use Rattle.std.specs.Prelude.{◌≡◌, ℕ, ◌+◌, ◌*◌, ◌^◌, ◌<◌, ◌≤◌, Bool, ◌||◌, T, ◌⊎◌, List, length, ◌==◌}
 use Rattle.std.proofs.Common.{arith, inl, inr, eqb→eq}
 use Rattle.std.proofs.Math.Decide.{ℕ_discrete}
 use Rattle.std.proofs.Math.Path.{subst}

@@ -4,7 +4,7 @@
 --   spent sp w                 sp with one less at w
 --   Agree g s sp tp            sp and tp have the same supports for the members of s
 --   Choosing sp s best left    of the members of s those of left are still to come, and best has the least support of the others
-use Rattle.core.specs.Prelude.{◌≡◌, ℕ, ◌-◌, ◌^◌, ◌<◌, ◌≤◌, Bool, true, false, cond, not, ◌&&◌, List, [], ◌∷◌, length, set, nat_le, slice_index, slice_set}
+use Rattle.std.specs.Prelude.{◌≡◌, ℕ, ◌-◌, ◌^◌, ◌<◌, ◌≤◌, Bool, true, false, cond, not, ◌&&◌, List, [], ◌∷◌, length, nat_le, slice_index, slice_set}
 use Rattle.std.proofs.Common.{le_refl, arith, ap₂, ◌∙◌, subst, length-set, get_or-set_same, get_or-set_other, le-leb}
 use Rattle.std.proofs.Math.Decide.{dec_le, ℕ_discrete}
 use Rattle.std.proofs.Math.Path.{refl, sym, ap}

@@ -1,6 +1,7 @@
 // The core of a graph, the two-hop reach of a vertex, and the bounds on the size of a k-plex, with the calls that give them.
 #![tactic(auto)]
-ghost use Rattle.core.specs.Prelude.{◌≡◌, ◌<◌, length};
+
+ghost use Rattle.std.specs.Prelude.{◌≡◌, ◌<◌, length};
 ghost use Rattle.sets.specs.Words.{masks, mask};
 ghost use Rattle.bounds.specs.Calls.{core_found_reply, core_reply, reach_found_reply, reach_reply};
 ghost use Rattle.judging.specs.Refusal.{first_cause};
@@ -9,10 +10,10 @@ ghost use Rattle.judging.specs.Calls.{passed, checked_reply};
 ghost use Rattle.bounds.specs.BoundCalls.{misplaced, bound_check, bound_found_reply, first_bound_reply, second_bound_reply};
 
 pub mod bound;
-pub mod core;
+pub mod cores;
 pub mod reach;
 
-use core::Peeled;
+use cores::Peeled;
 use judging::{Checked, Refusal};
 use sets::Set;
 
@@ -42,7 +43,7 @@ pub fn find_core(rows: &[u64], slack: usize, floor: usize) -> CoreFound
     if let Checked::Failed(f) = checked {
         return CoreFound::Refused(f);
     }
-    CoreFound::Core(core::peel(rows, floor - slack))
+    CoreFound::Core(cores::peel(rows, floor - slack))
 }
 
 // The two-hop reach of the vertex v in the graph with these rows.

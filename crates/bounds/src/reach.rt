@@ -1,5 +1,5 @@
 // The two-hop reach of a vertex.
-ghost use Rattle.core.specs.Prelude.{◌≡◌, ◌<◌, length};
+ghost use Rattle.std.specs.Prelude.{◌≡◌, ◌<◌, length};
 ghost use Rattle.sets.specs.Words.{mask, masks};
 ghost use Rattle.judging.specs.Setting.{LowRows};
 ghost use Rattle.bounds.specs.Reach.{reach};

@@ -1,4 +1,5 @@
 // Lists of masks in lent slots: masks are stored as they are found, and put in rising order.
 #![tactic(auto)]
+
 pub mod place;
 pub mod sort;

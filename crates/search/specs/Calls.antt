@@ -7,7 +7,7 @@
 --   slots_after g ask slots   the slots at exit: as they were where the request is refused, else given the list
 --   Lists                    both, as the call's promise
 --   Collects                 the promise of the function below it: m, and where the list fits, the slots given it
-use Rattle.core.specs.Prelude.{◌≡◌, ℕ, ◌≤◌, cond, List, [], ◌∷◌, ◌++◌, length, drop, replicate, nat_le, nat_lt}
+use Rattle.std.specs.Prelude.{◌≡◌, ℕ, ◌≤◌, cond, List, [], ◌∷◌, ◌++◌, length, drop, replicate, nat_le, nat_lt}
 use Rattle.judging.specs.Request.{Request}
 use Rattle.judging.specs.Refusal.{Reply, refused, answered, Cause, cause, first_cause}
 use Rattle.judging.specs.Calls.{refusal, passed, request_check}

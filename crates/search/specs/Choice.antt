@@ -3,7 +3,7 @@
 --   Choosable g w     w is a vertex of a graph that sets can hold
 --   Among g c w r     r are candidates of c; where there is none, w is no candidate and is adjacent to all
 --   Pickable g s      s has members, all of them vertices
-use Rattle.core.specs.Prelude.{◌≡◌, ℕ, ◌^◌, ◌<◌, ◌≤◌, List, length}
+use Rattle.std.specs.Prelude.{◌≡◌, ℕ, ◌^◌, ◌<◌, ◌≤◌, List, length}
 use Rattle.sets.specs.Set.{bit, Sub, minus}
 use Rattle.sets.specs.Graph.{row}
 use Rattle.sets.specs.Words.{width}

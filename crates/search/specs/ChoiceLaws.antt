@@ -1,7 +1,7 @@
 -- Laws of the choice of the vertex to branch on.
 --
 --   Choosing s left b   b is a member of s, and the members of left are still to be looked at
-use Rattle.core.specs.Prelude.{◌≡◌, ℕ, ◌^◌, true, false, List}
+use Rattle.std.specs.Prelude.{◌≡◌, ℕ, ◌^◌, true, false, List}
 use Rattle.std.proofs.Common.{arith, pow_pos}
 use Rattle.sets.specs.Set.{bit, has, In, Sub, minus, without}
 use Rattle.sets.specs.Graph.{row}

@@ -3,7 +3,7 @@
 --
 --   Sharing g s l m      the members of s outside l are adjacent to all of m, and m has all common neighbours of s
 --   Pivoting g c m l b   b covers c, and the vertices l of m are still to be looked at
-use Rattle.core.specs.Prelude.{◌≡◌, ℕ, ◌+◌, ◌^◌, ◌<◌, ◌≤◌, not, T, ◌≢◌, List, length, ◌==◌}
+use Rattle.std.specs.Prelude.{◌≡◌, ℕ, ◌+◌, ◌^◌, ◌<◌, ◌≤◌, not, T, ◌≢◌, List, length, ◌==◌}
 use Rattle.std.proofs.Common.{arith, le_refl, sym, subst, pow_pos}
 use Rattle.std.proofs.Math.Decide.{ℕ_discrete}
 use Rattle.std.specs.Int.Bits.{bit_and, bit_or}

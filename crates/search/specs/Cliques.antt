@@ -7,7 +7,7 @@
 --   Sweeping g s b m t              the same of the candidates b and t, which are apart
 --   needing z n s                   the request for the cliques with n members that are not silent more than s has, where z are the silent vertices
 --   Enough z n c                    any vertex of c makes up the n members that are still needed
-use Rattle.core.specs.Prelude.{ℕ, ◌+◌, ◌^◌, ◌<◌, ◌≤◌, Bool, not, ◌&&◌, List, length, ◌==◌, bit_and, bit_or}
+use Rattle.std.specs.Prelude.{ℕ, ◌+◌, ◌^◌, ◌<◌, ◌≤◌, Bool, not, ◌&&◌, List, length, ◌==◌, bit_and, bit_or}
 use Rattle.sets.specs.Set.{bit, In, Sub, size, minus}
 use Rattle.sets.specs.Graph.{row}
 use Rattle.sets.specs.Words.{width}

@@ -1,6 +1,6 @@
 -- The starred edges of document 01, "Edges to run", those of looseness, of passes and of silent vertices (document 02, cards 2, 4 and 6), as one
 -- table that the checker computes: what the definitions give, beside what the document says.
-use Rattle.core.specs.Prelude.{ℕ, Bool, true, false, ◌&&◌, T, List, [], ◌∷◌, ◌==◌}
+use Rattle.std.specs.Prelude.{ℕ, Bool, true, false, ◌&&◌, T, List, [], ◌∷◌, ◌==◌}
 use Rattle.std.specs.Int.Count.{ones, ones_in}
 use Rattle.sets.specs.Ranges.{from, range, first, all, any, keep, total, greatest, joined}
 use Rattle.sets.specs.Set.{bit, has, subset, with, minus, set_of, members}

@@ -1,6 +1,6 @@
 -- Laws of a clique with at most two candidates left, which need no pivot: with none it is maximal or adds nothing, a vertex alone is taken, of two that
 -- are adjacent both are, and of two that are not each is taken by itself.
-use Rattle.core.specs.Prelude.{◌≡◌, ℕ, ◌^◌, ◌<◌, max, Bool, true, false, T, ◌≢◌, ◌⊎◌, List, length}
+use Rattle.std.specs.Prelude.{◌≡◌, ℕ, ◌^◌, ◌<◌, max, Bool, true, false, T, ◌≢◌, ◌⊎◌, List, length}
 use Rattle.std.proofs.Common.{arith, sym, ap, ◌∙◌, subst, inl, inr, eqb→eq, pow_pos}
 use Rattle.std.specs.Prelude.{refl}
 use Rattle.std.specs.Int.Bits.{bit_and, bit_or, and_zero_l}

@@ -1,5 +1,5 @@
 -- Laws of the floor at slack 1: too few candidates are cut, and where every clique to be found meets the floor it is as if there were none.
-use Rattle.core.specs.Prelude.{◌≡◌, ℕ, ◌+◌, ◌-◌, ◌^◌, ◌<◌, ◌≤◌, ◌≢◌, List, length}
+use Rattle.std.specs.Prelude.{◌≡◌, ℕ, ◌+◌, ◌-◌, ◌^◌, ◌<◌, ◌≤◌, ◌≢◌, List, length}
 use Rattle.std.proofs.Common.{arith, sym, ap, subst, ◌∙◌, pow_pos}
 use Rattle.std.proofs.Math.Decide.{ℕ_discrete}
 use Rattle.std.specs.Prelude.{refl}

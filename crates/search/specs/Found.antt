@@ -8,7 +8,7 @@
 --   Short g k q s a       every plex between s and a has fewer than q members
 --   Lacks g ask s a       every plex between s and a has fewer members that are not silent than the floor asks for
 --   Near g ask t          a listed plex that holds v has no member outside row v of the table t, but v
-use Rattle.core.specs.Prelude.{◌≡◌, ℕ, ◌^◌, ◌<◌, Bool, ◌&&◌, ◌≢◌, List, length, bit_or}
+use Rattle.std.specs.Prelude.{◌≡◌, ℕ, ◌^◌, ◌<◌, Bool, ◌&&◌, ◌≢◌, List, length, bit_or}
 use Rattle.sets.specs.Set.{bit, In, Sub, size, subset, with}
 use Rattle.sets.specs.Graph.{row}
 use Rattle.judging.specs.Request.{Request, recorded}

@@ -1,5 +1,5 @@
 -- Laws of what a call of the search is to add: where a branch may be cut, what a leaf adds, and how the branches with and without a vertex share the rest.
-use Rattle.core.specs.Prelude.{◌≡◌, ℕ, ◌+◌, ◌^◌, ◌<◌, ◌≤◌, max, ◌&&◌, T, List, length, bit_and}
+use Rattle.std.specs.Prelude.{◌≡◌, ℕ, ◌+◌, ◌^◌, ◌<◌, ◌≤◌, max, ◌&&◌, T, List, length, bit_and}
 use Rattle.std.proofs.Common.{arith, sym, ap, ◌∙◌, ⊎_elim}
 use Rattle.std.specs.Int.Bits.{bit_or}
 use Rattle.sets.specs.Set.{bit, In, Sub, size, subset, with, without, minus}

@@ -10,7 +10,7 @@
 --   Pairs g ask a s           a holds every listed plex, and s the members of it that are not silent
 --   Lent g t                  the lent table t has a row for each vertex
 --   Filled g ask before t     t is as long as before, its rows are sets of vertices, and it is Near
-use Rattle.core.specs.Prelude.{◌≡◌, ℕ, ◌+◌, ◌*◌, ◌^◌, ◌<◌, ◌≤◌, Bool, cond, ◌&&◌, List, length, bit_and, nat_le}
+use Rattle.std.specs.Prelude.{◌≡◌, ℕ, ◌+◌, ◌*◌, ◌^◌, ◌<◌, ◌≤◌, Bool, cond, ◌&&◌, List, length, bit_and, nat_le}
 use Rattle.sets.specs.Set.{bit, has, Sub, without, full, set_of}
 use Rattle.sets.specs.Graph.{row}
 use Rattle.sets.specs.Words.{width}

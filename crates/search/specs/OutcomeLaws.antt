@@ -1,6 +1,6 @@
 -- What the answer of the call that lists means. An accepted request leaves the list in the slots, or 0 in all of them where it does not fit; where m is 0
 -- every number of slots will do. Refusals of the request have the numbers 1 to 5, so number 6 comes from a request that passed its checks.
-use Rattle.core.specs.Prelude.{◌≡◌, ℕ, ◌<◌, ◌≤◌, T, List, [], ◌++◌, length, take, drop, replicate}
+use Rattle.std.specs.Prelude.{◌≡◌, ℕ, ◌<◌, ◌≤◌, T, List, [], ◌++◌, length, take, drop, replicate}
 use Rattle.std.proofs.Common.{arith, sym, ap, ◌∙◌, subst, take_at, drop_at}
 use mathlib.Core.List.Memᴰ
 use Rattle.std.proofs.Math.Seq.{drop-length}

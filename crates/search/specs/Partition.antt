@@ -2,7 +2,7 @@
 --
 --   Between g s a                     a is a set of vertices of the graph, and s a part of it
 --   Picked g k r left best most rest  where most exceeds k, best is in left and misses exactly most vertices of r; rest is a part of left without best
-use Rattle.core.specs.Prelude.{◌≡◌, ℕ, ◌^◌, ◌<◌, List, length}
+use Rattle.std.specs.Prelude.{◌≡◌, ℕ, ◌^◌, ◌<◌, List, length}
 use Rattle.sets.specs.Set.{bit, In, Sub}
 use Rattle.judging.specs.Graph.{missing}
 

@@ -2,7 +2,7 @@
 --
 --   Picking    what holds in the midst of a choice: the members of todo are still to come, kept are those that stay, best misses most so far
 --   Bounding   what holds in the midst of the bound: a plex between s and a has, together with r, at most room + q members
-use Rattle.core.specs.Prelude.{◌≡◌, ℕ, ◌+◌, ◌-◌, ◌^◌, ◌<◌, ◌≤◌, List, length}
+use Rattle.std.specs.Prelude.{◌≡◌, ℕ, ◌+◌, ◌-◌, ◌^◌, ◌<◌, ◌≤◌, List, length}
 use Rattle.std.proofs.Common.{arith}
 use Rattle.std.specs.Int.Bits.{bit_and, bit_or}
 use Rattle.sets.specs.Set.{In, Sub, size, with, minus, without}

@@ -7,7 +7,7 @@
 --   Whole g t ask s c a         the same, and a is s and c together
 --   Split g t ask s c v r rest  a vertex v of c is branched on: r are the candidates kept beside it, and rest those without it
 --   LeafReady g k a free        a is a set of vertices of the graph, and free are those that no member of a blocks
-use Rattle.core.specs.Prelude.{◌≡◌, ℕ, ◌-◌, ◌^◌, ◌<◌, ◌≤◌, List, length, bit_and, bit_or}
+use Rattle.std.specs.Prelude.{◌≡◌, ℕ, ◌-◌, ◌^◌, ◌<◌, ◌≤◌, List, length, bit_and, bit_or}
 use Rattle.sets.specs.Set.{In, size, without}
 use Rattle.sets.specs.Words.{width}
 use Rattle.judging.specs.Request.{Request, request}

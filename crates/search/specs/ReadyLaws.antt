@@ -1,5 +1,5 @@
 -- Laws of a step of the search: what it may ask of its callees, and what it has added where it is cut, at a leaf, and after both branches.
-use Rattle.core.specs.Prelude.{◌≡◌, ℕ, ◌+◌, ◌*◌, ◌^◌, ◌<◌, ◌≤◌, not, T, List, length, ◌==◌}
+use Rattle.std.specs.Prelude.{◌≡◌, ℕ, ◌+◌, ◌*◌, ◌^◌, ◌<◌, ◌≤◌, not, T, List, length, ◌==◌}
 use Rattle.std.proofs.Common.{arith, sym, ap, subst, T_not, eqb→eq}
 use Rattle.std.proofs.Math.Dec.{not_T, eqb_refl}
 use Rattle.std.specs.Int.Bits.{bit_and}

@@ -2,7 +2,7 @@
 -- floor asks for as s has silent ones.
 --
 --   counting ask s x   x without its silent members outside s
-use Rattle.core.specs.Prelude.{◌≡◌, ℕ, ◌+◌, ◌-◌, ◌^◌, ◌≤◌, max, List}
+use Rattle.std.specs.Prelude.{◌≡◌, ℕ, ◌+◌, ◌-◌, ◌^◌, ◌≤◌, max, List}
 use Rattle.std.proofs.Common.{arith, ap, pow_pos}
 use Rattle.std.specs.Int.Bits.{bit_and, bit_or}
 use Rattle.std.proofs.lemmas.Nat.{ones-le}

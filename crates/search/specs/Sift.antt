@@ -2,7 +2,7 @@
 --
 --   Siftable g k q s c v d t   what the sifting of d relies on: d are candidates of c, apart from v, t some of them, and the sums of the test are small
 --   Counted ask q j d t        the members of d that are not silent are in t, and q is at most the floor with as many more as j has silent members
-use Rattle.core.specs.Prelude.{ℕ, ◌+◌, ◌*◌, ◌≤◌, List, length, bit_and}
+use Rattle.std.specs.Prelude.{ℕ, ◌+◌, ◌*◌, ◌≤◌, List, length, bit_and}
 use Rattle.sets.specs.Set.{Sub, size, without}
 use Rattle.sets.specs.Words.{width}
 use Rattle.judging.specs.Request.{Request, recorded}

@@ -1,5 +1,5 @@
 -- Laws of sifting: a candidate that is not close to v in what is left is in no listed plex beside v, so that nothing found is lost.
-use Rattle.core.specs.Prelude.{◌≡◌, ℕ, ◌+◌, ◌^◌, ◌<◌, ◌≢◌, List, length, bit_and}
+use Rattle.std.specs.Prelude.{◌≡◌, ℕ, ◌+◌, ◌^◌, ◌<◌, ◌≢◌, List, length, bit_and}
 use Rattle.std.proofs.Common.{arith, ap}
 use Rattle.std.specs.Int.Bits.{bit_or}
 use Rattle.std.proofs.lemmas.Nat.{or_lt}

@@ -5,7 +5,7 @@
 --   attached g m z s        the members of z that are adjacent to more than m members of s
 --   Candidates g ask c      c are vertices of the graph, and every listed plex lies in c
 --   Startable g ask all s c every listed plex lies in all, and the candidates c are compatible with s
-use Rattle.core.specs.Prelude.{ℕ, ◌+◌, ◌*◌, ◌^◌, ◌<◌, ◌≤◌, ◌&&◌, List, length, nat_lt}
+use Rattle.std.specs.Prelude.{ℕ, ◌+◌, ◌*◌, ◌^◌, ◌<◌, ◌≤◌, ◌&&◌, List, length, nat_lt}
 use Rattle.sets.specs.Set.{has, Sub, set_of}
 use Rattle.sets.specs.Words.{width}
 use Rattle.judging.specs.Request.{Request}

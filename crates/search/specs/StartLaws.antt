@@ -1,5 +1,5 @@
 -- Laws of where the search starts. Every listed plex lies in the core, and in the set of all vertices; from the empty set and these all of them are found.
-use Rattle.core.specs.Prelude.{◌≡◌, ℕ, ◌+◌, ◌-◌, ◌*◌, ◌^◌, ◌<◌, ◌≤◌, Bool, ◌&&◌, T, leb, List, length, bit_and, nat_le, nat_lt}
+use Rattle.std.specs.Prelude.{◌≡◌, ℕ, ◌+◌, ◌-◌, ◌*◌, ◌^◌, ◌<◌, ◌≤◌, Bool, ◌&&◌, T, leb, List, length, bit_and, nat_le, nat_lt}
 use Rattle.std.proofs.Common.{arith, sym, ap, subst, le→leb, pow_pos}
 use Rattle.std.proofs.Math.Decide.{dec_lt}
 use Rattle.std.specs.Int.Bits.{bit_or}

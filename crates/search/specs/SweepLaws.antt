@@ -3,7 +3,7 @@
 --
 --   Step g s b m t v j r w b2 t2        one step takes v out of t: the candidates with v are r, and b and t become b2 and t2
 --   Swept g ask s b m t .. b2 t2 ..     a sweep on its way: b and t have become b2 and t2, and what was to be added so far is in the slots
-use Rattle.core.specs.Prelude.{◌≡◌, ℕ, ◌+◌, ◌-◌, ◌^◌, ◌<◌, ◌≤◌, min, max, Bool, T, ◌⊎◌, List, length}
+use Rattle.std.specs.Prelude.{◌≡◌, ℕ, ◌+◌, ◌-◌, ◌^◌, ◌<◌, ◌≤◌, min, max, Bool, T, ◌⊎◌, List, length}
 use Rattle.std.proofs.Common.{arith, ap, ◌∙◌, inl, inr}
 use Rattle.std.proofs.Math.Decide.{ℕ_discrete}
 use Rattle.std.specs.Prelude.{refl}

@@ -1,7 +1,7 @@
 -- Laws of a clique s with candidates c: it grows by a common neighbour, and a sweep over candidates that cover the others adds what is to be found.
 --
 --   Joined g s m v j w   j is s with v, and w are the vertices of m that v is adjacent to
-use Rattle.core.specs.Prelude.{◌≡◌, ℕ, ◌^◌, ◌<◌, List, length, bit_and, bit_or}
+use Rattle.std.specs.Prelude.{◌≡◌, ℕ, ◌^◌, ◌<◌, List, length, bit_and, bit_or}
 use Rattle.std.proofs.Common.{arith, ap, ◌∙◌}
 use Rattle.sets.specs.Set.{In, Sub, with, minus}
 use Rattle.sets.specs.Graph.{row}

@@ -8,7 +8,7 @@
 --   DropsMissing g k s v c r  r is what the second drop leaves of c: nothing found is lost, and Cheap
 --   Joinable g t s c v        what the joining of v, a candidate, relies on, with the table t of near rows
 --   Beside g ask s c v r      r is what is left of c once v has joined s
-use Rattle.core.specs.Prelude.{◌≡◌, ℕ, ◌^◌, ◌<◌, ◌≤◌, List, length}
+use Rattle.std.specs.Prelude.{◌≡◌, ℕ, ◌^◌, ◌<◌, ◌≤◌, List, length}
 use Rattle.sets.specs.Set.{bit, In, Sub, with, without}
 use Rattle.sets.specs.Graph.{row}
 use Rattle.sets.specs.Words.{width}

@@ -1,7 +1,7 @@
 -- Laws of trimming: a candidate that no listed plex holds beside the set s may go, and what stays is compatible with s.
 --
 --   costly g k s w   w misses k or more of s
-use Rattle.core.specs.Prelude.{◌≡◌, ℕ, ◌^◌, ◌<◌, ◌≤◌, Bool, List, length, ◌≢◌, nat_le}
+use Rattle.std.specs.Prelude.{◌≡◌, ℕ, ◌^◌, ◌<◌, ◌≤◌, Bool, List, length, ◌≢◌, nat_le}
 use Rattle.std.proofs.Common.{le_trans, arith, ap, leb→le, le→leb}
 use Rattle.std.proofs.Math.Decide.{dec_lt}
 use Rattle.std.specs.Prelude.{refl}

@@ -1,5 +1,5 @@
 // The recursive search. The functions around it decide; this one only splits by a vertex.
-ghost use Rattle.core.specs.Prelude.{◌^◌, length};
+ghost use Rattle.std.specs.Prelude.{◌^◌, length};
 ghost use Rattle.sets.specs.Words.{mask, masks};
 ghost use Rattle.judging.specs.Plex.{extendable};
 ghost use Rattle.search.specs.Found.{AddsFound};

@@ -1,6 +1,6 @@
 // Slack 1, where a plex is a clique: the search by a pivot. `need` is how many members that are not silent a clique still lacks. Once every clique that can
 // be found has enough, the search goes on without a floor (`free`).
-ghost use Rattle.core.specs.Prelude.{◌≡◌, ◌+◌, ◌-◌, ◌^◌, ◌<◌, ◌≤◌, true, false, ◌≢◌, length, bit_and};
+ghost use Rattle.std.specs.Prelude.{◌≡◌, ◌+◌, ◌-◌, ◌^◌, ◌<◌, ◌≤◌, true, false, ◌≢◌, length, bit_and};
 ghost use Rattle.sets.specs.Set.{size, with, minus};
 ghost use Rattle.sets.specs.Words.{mask, masks};
 ghost use Rattle.judging.specs.Request.{request};

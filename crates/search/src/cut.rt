@@ -1,5 +1,5 @@
 // Where a branch has nothing to add. Each cut but the size has a switch, and is right at either setting.
-ghost use Rattle.core.specs.Prelude.{◌≡◌, ◌≤◌, true, false, T, bit_and};
+ghost use Rattle.std.specs.Prelude.{◌≡◌, ◌≤◌, true, false, T, bit_and};
 ghost use Rattle.sets.specs.Set.{size, with, minus};
 ghost use Rattle.sets.specs.Words.{mask, masks};
 ghost use Rattle.judging.specs.Plex.{unblocked, extendable};

@@ -1,5 +1,5 @@
 // Slack 1 without a floor: every maximal clique is placed. The search by a pivot (Bron and Kerbosch, with Tomita's choice).
-ghost use Rattle.core.specs.Prelude.{ℕ, ◌^◌, ◌≢◌, List, length};
+ghost use Rattle.std.specs.Prelude.{ℕ, ◌^◌, ◌≢◌, List, length};
 ghost use Rattle.sets.specs.Set.{with};
 ghost use Rattle.sets.specs.Words.{mask, masks};
 ghost use Rattle.judging.specs.Request.{request};

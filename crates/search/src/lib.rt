@@ -1,6 +1,6 @@
 // The search for all maximal k-plexes, and the call that lists them.
 #![tactic(auto)]
-ghost use Rattle.core.specs.Prelude.{◌≡◌, ◌^◌, ◌<◌, length};
+ghost use Rattle.std.specs.Prelude.{◌≡◌, ◌^◌, ◌<◌, length};
 ghost use Rattle.sets.specs.Words.{mask, masks};
 ghost use Rattle.judging.specs.Request.{request, asked};
 ghost use Rattle.lists.specs.Listing.{listed};
@@ -47,7 +47,7 @@ pub fn candidates(rows: &[u64], k: usize, q: usize, core: bool) -> Set
 {
     if core {
         if k < q {
-            return bounds::core::core(rows, q - k);
+            return bounds::cores::core(rows, q - k);
         }
     }
     sets::full(sets::count(rows))
@@ -75,7 +75,7 @@ fn core_beside(rows: &[u64], k: usize, q: usize, silent: Set) -> Set
     ensures { Candidates (masks rows.now) (request k q (mask silent)) (mask result) }
 {
     let others = sets::minus(sets::full(sets::count(rows)), silent);
-    let core = bounds::core::core_within(rows, q - k, others);
+    let core = bounds::cores::core_within(rows, q - k, others);
     sets::join(core, attached(rows, q - k, silent, core))
 }
 

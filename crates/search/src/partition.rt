@@ -1,6 +1,6 @@
 // The partition bound: a plex that holds u has at most k of the vertices that u misses, so those beyond k do not count. The parts that the members
 // of s take off are apart from each other.
-ghost use Rattle.core.specs.Prelude.{◌≡◌, ◌^◌, ◌<◌, true, length};
+ghost use Rattle.std.specs.Prelude.{◌≡◌, ◌^◌, ◌<◌, true, length};
 ghost use Rattle.sets.specs.Set.{Sub, with};
 ghost use Rattle.sets.specs.Words.{width, mask, masks};
 ghost use Rattle.search.specs.Found.{Short};

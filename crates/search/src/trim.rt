@@ -4,7 +4,7 @@ ghost use Rattle.judging.specs.Request.{Request};
 ghost use Rattle.search.specs.Trim.{Trimmable, DropsBlocked, DropsMissing, Joinable, Beside};
 ghost use Rattle.search.specs.Sift.{Siftable, Counted};
 ghost use Rattle.search.specs.Found.{Near};
-ghost use Rattle.core.specs.Prelude.{◌≡◌, ◌-◌};
+ghost use Rattle.std.specs.Prelude.{◌≡◌, ◌-◌};
 ghost use Rattle.sets.specs.Set.{with};
 
 use sets::Set;

@@ -1,6 +1,7 @@
 // Sheets: a graph with a request as text. Line 1 has n, k and q, two digits each; then the silent set, and then each row, has a line of 16 digits.
 // A graph with an isolated vertex has none: it is declined.
 #![tactic(auto)]
+
 ghost use Rattle.std.specs.Prelude.{◌≡◌};
 ghost use Rattle.sets.specs.Words.{masks};
 ghost use Rattle.judging.specs.Request.{asked};

@@ -1,5 +1,5 @@
 -- A walk through the silent set drops each that is adjacent to at most m members of s, so that those that are adjacent to more stay.
-use Rattle.core.specs.Prelude.{leb, length}
+use Rattle.std.specs.Prelude.{leb, length}
 use Rattle.sets.specs.Words.{mask, masks}
 use Rattle.sets.specs.WalkLaws.{walk_falls, walk_goes_on, walk_over}
 use Rattle.sets.specs.DropLaws.{Dropping, dropping_none, dropping_vertex, dropping_next}

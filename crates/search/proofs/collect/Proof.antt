@@ -1,5 +1,5 @@
 -- The search adds what is listed, and put in order that is the list; where the slots are too few its number alone is told.
-use Rattle.core.specs.Prelude.{◌≡◌, ℕ, ◌≤◌, List, length}
+use Rattle.std.specs.Prelude.{◌≡◌, ℕ, ◌≤◌, List, length}
 use native.Mathlib.Omega.{arith}
 use mathlib.Core.Path.{sym, ◌∙◌}
 use borrow.Author.Rules.{rules}

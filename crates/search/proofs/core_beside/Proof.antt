@@ -1,5 +1,5 @@
 -- The vertices that are not silent are all but the silent ones; their core and what is attached to it hold every listed plex.
-use Rattle.core.specs.Prelude.{◌≡◌, ℕ, length}
+use Rattle.std.specs.Prelude.{◌≡◌, ℕ, length}
 use mathlib.Core.Path.{ap, ◌∙◌}
 use borrow.Author.Rules.{rules}
 use Rattle.sets.specs.Set.{minus, full}

@@ -1,7 +1,7 @@
 -- At slack 1 the candidates are common neighbours of s, from which the search for cliques starts.
 -- At any other the table of near rows is made, and the branch does the rest.
 use native.Mathlib.Omega.{arith}
-use Rattle.core.specs.Prelude.{◌≡◌, ℕ, ◌+◌}
+use Rattle.std.specs.Prelude.{◌≡◌, ℕ, ◌+◌}
 use mathlib.Core.Path.{refl, ap, ◌∙◌}
 use borrow.Author.Rules.{rules}
 use lib.Bits.{bit_and}

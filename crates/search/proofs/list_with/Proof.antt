@@ -1,5 +1,5 @@
 -- A refused request leaves the slots. For any other they are given the list, or cleared where they are too few.
-use Rattle.core.specs.Prelude.{◌≡◌, ℕ, length, replicate}
+use Rattle.std.specs.Prelude.{◌≡◌, ℕ, length, replicate}
 use native.Mathlib.Omega.{arith}
 use mathlib.Core.Path.{sym, ap, ◌∙◌}
 use borrow.Author.Rules.{rules}

@@ -1,5 +1,5 @@
 -- Without silent vertices it is the core; with some the core of the others, and what is attached to it; or all vertices.
-use Rattle.core.specs.Prelude.{◌≡◌}
+use Rattle.std.specs.Prelude.{◌≡◌}
 use mathlib.Core.Path.{ap, ◌∙◌}
 use borrow.Author.Rules.{rules}
 use borrow.Author.Tests.{not-false}

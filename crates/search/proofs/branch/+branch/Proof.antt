@@ -1,6 +1,6 @@
 -- Each cut adds nothing, a leaf adds itself, and the branches with and without a vertex share the rest.
 -- The measure is the number c, which falls when a candidate leaves it.
-use Rattle.core.specs.Prelude.{◌≡◌, ℕ, ◌+◌, ◌<◌}
+use Rattle.std.specs.Prelude.{◌≡◌, ℕ, ◌+◌, ◌<◌}
 use borrow.Fn.Kinds.{In}
 use borrow.Fn.PlainCycle.{Measures, is, falls, and}
 use mathlib.Core.Path.{refl, sym, ap, ◌∙◌}

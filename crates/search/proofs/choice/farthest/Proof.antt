@@ -1,5 +1,5 @@
 -- The best so far is always a member: the lowest at first, and later one that was looked at.
-use Rattle.core.specs.Prelude.{◌<◌}
+use Rattle.std.specs.Prelude.{◌<◌}
 use Rattle.sets.specs.Words.{mask}
 use Rattle.sets.specs.SubsetLaws.{sub_refl}
 use Rattle.sets.specs.WalkLaws.{walk_falls, walk_below, walk_goes_on}

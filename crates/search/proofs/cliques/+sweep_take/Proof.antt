@@ -1,7 +1,7 @@
 -- A sweep adds what each vertex to take adds in turn. A clique adds nothing where too few candidates are left, what the search without a floor adds where any
 -- candidate is enough, and else what its end with two candidates or a sweep over the candidates of a pivot adds. The measure is the candidates, which fall
 -- when a vertex is taken.
-use Rattle.core.specs.Prelude.{◌≡◌, ℕ, ◌+◌, ◌*◌, ◌^◌, ◌<◌, ◌≤◌, ◌≢◌, length}
+use Rattle.std.specs.Prelude.{◌≡◌, ℕ, ◌+◌, ◌*◌, ◌^◌, ◌<◌, ◌≤◌, ◌≢◌, length}
 use borrow.Fn.Kinds.{In}
 use borrow.Fn.PlainCycle.{Measures, is, falls, and}
 use mathlib.Core.Path.{refl, ◌∙◌}

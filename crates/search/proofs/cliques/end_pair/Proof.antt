@@ -1,5 +1,5 @@
 -- Where u and v are adjacent every clique to be found has both, which are enough; where they are not, those with u are found first and those with v after them.
-use Rattle.core.specs.Prelude.{◌≡◌, ℕ, List}
+use Rattle.std.specs.Prelude.{◌≡◌, ℕ, List}
 use mathlib.Core.Path.{refl}
 use native.Mathlib.Omega.{arith}
 use borrow.Author.Rules.{rules}

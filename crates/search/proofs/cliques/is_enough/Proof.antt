@@ -1,5 +1,5 @@
 -- One that is needed is made up by any candidate if none is silent; none that is needed by any; more than one by none.
-use Rattle.core.specs.Prelude.{◌<◌}
+use Rattle.std.specs.Prelude.{◌<◌}
 use native.Mathlib.Omega.{arith}
 use mathlib.Core.Path.{sym, ◌∙◌}
 use borrow.Author.Rules.{rules}

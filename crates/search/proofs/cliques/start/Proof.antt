@@ -1,6 +1,6 @@
 -- What is needed is what s lacks at the floor. Too few candidates add nothing, enough with any of them what the search without a floor adds, and else a
 -- sweep over the candidates of a pivot adds what is to be found.
-use Rattle.core.specs.Prelude.{◌≡◌, ◌-◌, ◌<◌}
+use Rattle.std.specs.Prelude.{◌≡◌, ◌-◌, ◌<◌}
 use mathlib.Core.Path.{refl, ap, ◌∙◌}
 use borrow.Author.Rules.{rules}
 use Rattle.sets.specs.Set.{size, minus}

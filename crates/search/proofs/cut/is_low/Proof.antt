@@ -1,6 +1,6 @@
 -- The silent members of a that are not in s are left out, and q counts those of s: then the number of members decides.
 use native.Mathlib.Omega.{arith}
-use Rattle.core.specs.Prelude.{◌≡◌}
+use Rattle.std.specs.Prelude.{◌≡◌}
 use mathlib.Core.Path.{◌∙◌, ap}
 use lib.Bits.{bit_or}
 use Rattle.judging.specs.Request.{Request}

@@ -1,6 +1,6 @@
 -- A sweep adds what each vertex to take adds in turn. A clique adds what its end adds where at most two candidates are left, and else what a sweep over
 -- the candidates of a pivot adds. The measure is the candidates, which fall when a vertex is taken.
-use Rattle.core.specs.Prelude.{◌≡◌, ℕ, ◌+◌, ◌*◌, ◌^◌, ◌<◌, ◌≢◌, length}
+use Rattle.std.specs.Prelude.{◌≡◌, ℕ, ◌+◌, ◌*◌, ◌^◌, ◌<◌, ◌≢◌, length}
 use borrow.Fn.Kinds.{In}
 use borrow.Fn.PlainCycle.{Measures, is, falls, and}
 use mathlib.Core.Path.{refl, ◌∙◌}

@@ -1,5 +1,5 @@
 -- A clique with no common neighbour is maximal; any other could be grown by one, and adds nothing.
-use Rattle.core.specs.Prelude.{◌^◌, length}
+use Rattle.std.specs.Prelude.{◌^◌, length}
 use borrow.Author.Rules.{rules}
 use Rattle.sets.specs.WalkLaws.{empty_holds, empty_fails}
 use Rattle.search.specs.EndLaws.{lonely_adds, end_none}

@@ -1,6 +1,6 @@
 -- Where u and v are adjacent every clique to be found has u, the pivot that misses itself alone, and v is the only candidate left; where they are not,
 -- those with u are found first and those with v after them, and none has both.
-use Rattle.core.specs.Prelude.{◌≡◌, ℕ, List}
+use Rattle.std.specs.Prelude.{◌≡◌, ℕ, List}
 use mathlib.Core.Path.{refl}
 use native.Mathlib.Omega.{arith}
 use borrow.Author.Rules.{rules}

@@ -1,5 +1,5 @@
 -- After v turns the first v rows are those of the cuts that are switched on, each of which is near.
-use Rattle.core.specs.Prelude.{◌≡◌, ◌-◌, length}
+use Rattle.std.specs.Prelude.{◌≡◌, ◌-◌, length}
 use mathlib.Core.Path.{refl, ◌∙◌}
 use native.Mathlib.Omega.{arith}
 use Rattle.sets.specs.Words.{mask, masks}

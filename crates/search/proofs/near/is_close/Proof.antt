@@ -1,5 +1,5 @@
 -- The test by its parts: the common neighbours in the core are counted, and the adjacency of u and v is looked up.
-use Rattle.core.specs.Prelude.{◌≤◌}
+use Rattle.std.specs.Prelude.{◌≤◌}
 use native.Mathlib.Omega.{arith}
 use borrow.Author.Rules.{rules}
 use Rattle.sets.specs.BitLaws.{bit_le}

@@ -1,5 +1,5 @@
 -- A walk through the given members, v aside, drops each member that is not close to v, so that those that are close to v stay.
-use Rattle.core.specs.Prelude.{not, length}
+use Rattle.std.specs.Prelude.{not, length}
 use native.Mathlib.Omega.{arith}
 use Rattle.sets.specs.SizeLaws.{minus_below}
 use Rattle.sets.specs.Words.{mask, masks}

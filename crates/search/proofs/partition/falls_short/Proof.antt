@@ -1,5 +1,5 @@
 -- A plex between s and a has, together with r, at most room + q members, and each member chosen takes what it misses beyond k off the room.
-use Rattle.core.specs.Prelude.{ℕ}
+use Rattle.std.specs.Prelude.{ℕ}
 use native.Mathlib.Omega.{arith}
 use mathlib.Core.Path.{ap, ◌∙◌}
 use mathlib.Core.Bool.{false≢true}

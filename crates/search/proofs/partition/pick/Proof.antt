@@ -1,5 +1,5 @@
 -- Each member passed is dropped or kept, and best is the one passed that misses most, if that is more than k.
-use Rattle.core.specs.Prelude.{◌<◌}
+use Rattle.std.specs.Prelude.{◌<◌}
 use Rattle.sets.specs.Words.{mask, masks}
 use Rattle.sets.specs.WalkLaws.{walk_falls, walk_below, walk_goes_on}
 use Rattle.search.specs.PartitionLaws.{Picking, picking_none, picking_same, picking_more, picking_all}

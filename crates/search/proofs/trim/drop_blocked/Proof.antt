@@ -1,5 +1,5 @@
 -- The candidates are narrowed by the row of each member that v is not adjacent to and that misses k or more: what goes is in no plex that holds s.
-use Rattle.core.specs.Prelude.{◌<◌}
+use Rattle.std.specs.Prelude.{◌<◌}
 use native.Mathlib.Omega.{arith}
 use mathlib.Core.Path.{ap, ◌∙◌}
 use lib.Bits.{bit_and}

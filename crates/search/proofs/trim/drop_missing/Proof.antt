@@ -1,6 +1,6 @@
 -- Of the candidates that v is not adjacent to those are dropped that miss k or more of s: no plex that holds s has such a one.
 use mathlib.Core.Path.{ap}
-use Rattle.core.specs.Prelude.{leb, length}
+use Rattle.std.specs.Prelude.{leb, length}
 use Rattle.sets.specs.Set.{minus}
 use Rattle.sets.specs.Graph.{row}
 use Rattle.sets.specs.Words.{mask, masks}
