@@ -1,4 +1,4 @@
-//! Tells the linker where the archive `libkadvisk.a` is: in KADVISK_LIB, or where `rt staticlib kadvisk` writes it.
+//! Tells the linker where the archive `libkadvisk.a` is: in KADVISK_LIB, or where `scripts/archive` writes it.
 use std::env;
 use std::path::PathBuf;
 
@@ -9,7 +9,7 @@ fn main() {
     println!("cargo:rerun-if-env-changed=KADVISK_LIB");
     println!("cargo:rerun-if-changed={}", archive.display());
     if !archive.exists() {
-        println!("cargo:warning=no {}: run `rt staticlib kadvisk` at the root of the repository, or set KADVISK_LIB", archive.display());
+        println!("cargo:warning=no {}: run `scripts/archive` at the root of the repository, or set KADVISK_LIB", archive.display());
     }
     println!("cargo:rustc-link-search=native={}", folder.display());
     println!("cargo:rustc-link-lib=static=kadvisk");

@@ -7,11 +7,11 @@ use std::io::Write;
 use std::path::PathBuf;
 use std::process::{Command, Stdio};
 
-/// The built program: KADVISK_PROGRAM, or where `rt check` writes it.
+/// The built program: KADVISK_PROGRAM, or where scripts/program writes it.
 fn program() -> PathBuf {
     let built = PathBuf::from(env!("CARGO_MANIFEST_DIR")).join("../../target/bin/kplexes");
     let path = std::env::var_os("KADVISK_PROGRAM").map(PathBuf::from).unwrap_or(built);
-    assert!(path.exists(), "no program at {}: build it by `rt check kplexes`, or name it in KADVISK_PROGRAM", path.display());
+    assert!(path.exists(), "no program at {}: build it by `scripts/program`, or name it in KADVISK_PROGRAM", path.display());
     path
 }
 
