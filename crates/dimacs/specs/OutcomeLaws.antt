@@ -114,6 +114,7 @@ module _ (a b : ℕ) where
 lines-set : (a b l : ℕ) (s : State) (xs : List Line) {w : ℕ} {s' : State} → read_lines l s xs ≡ answered w s' → EdgeLine (suc a) (suc b) xs
     → T (joins (edges_in s') a b)
 unfolding joins
+lines-set a b l s [] e k = elim k [ ]
 lines-set a b l s (x ∷ xs) e (here q) =
     let f = first l s x xs e in
     let one = edge_of (suc a) (suc b) in

@@ -1,5 +1,6 @@
 // Graphs in the DIMACS form: comment lines, a line `p edge n m`, and a line `e u v` for each edge, with vertices from 1.
 #![tactic(auto)]
+
 ghost use Rattle.std.specs.Prelude.{◌≡◌, List, [], ℕ};
 ghost use Rattle.sets.specs.Words.{width, masks};
 ghost use Rattle.judging.specs.Refusal.{Reply, answered};

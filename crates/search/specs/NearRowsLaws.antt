@@ -3,7 +3,7 @@
 --
 --   Written f m before t   the first m rows of t are those of f, and t is as long as before
 --   NearAt g ask v r       r is a set of vertices, and holds all members, v aside, of each listed plex that holds v
-use Rattle.std.specs.Prelude.{◌≡◌, ℕ, ◌+◌, ◌*◌, ◌^◌, ◌<◌, ◌≤◌, max, Bool, true, false, cond, not, T, ◌≢◌, ◌⊎◌, List, length, set, nat_le, slice_set}
+use Rattle.std.specs.Prelude.{◌≡◌, ℕ, ◌+◌, ◌*◌, ◌^◌, ◌<◌, ◌≤◌, max, Bool, true, false, cond, not, T, ◌≢◌, ◌⊎◌, List, length, nat_le, slice_set}
 use Rattle.std.proofs.Common.{le_trans, not-suc-le-zero, arith, sym, ap, subst, ◌∙◌, inl, inr, T_not, length-set, pow_pos, get_or-set_same, get_or-set_other}
 use Rattle.std.proofs.Math.Decide.{ℕ_discrete}
 use Rattle.std.specs.Prelude.{refl}
