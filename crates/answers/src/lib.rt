@@ -1,5 +1,6 @@
 // The whole of what the program answers: the bytes of a sheet in, the bytes to print out.
 #![tactic(auto)]
+
 ghost use Rattle.sets.specs.Words.{masks};
 ghost use Rattle.judging.specs.Request.{asked};
 ghost use Rattle.answers.specs.Answer.{Answers, WritesList, Room};

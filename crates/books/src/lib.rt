@@ -1,5 +1,6 @@
 // The season book: a graph and its list in lent memory, kept together while edges come and go.
 #![tactic(auto)]
+
 ghost use Rattle.sets.specs.Words.{mask, masks};
 ghost use Rattle.judging.specs.Request.{asked};
 ghost use Rattle.search.specs.Start.{Accepted, Candidates};

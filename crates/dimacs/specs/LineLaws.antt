@@ -1,6 +1,6 @@
 -- Laws of lines: a text that is not empty is its first line and the lines of the rest, and what the code tells of a line is its kind. The records say what
 -- the loops over bytes know at each turn.
-use Rattle.std.specs.Prelude.{ℕ, zero, suc, ◌+◌, ◌-◌, ◌≤◌, ◌<◌, min, ◌≡◌, refl, Bool, true, false, not, eqb, leb, ltb, length, get_or, take, drop, ◌⊎◌}
+use Rattle.std.specs.Prelude.{ℕ, suc, ◌+◌, ◌-◌, ◌≤◌, ◌<◌, ◌≡◌, refl, Bool, true, false, not, eqb, leb, ltb, length, get_or, take, drop, ◌⊎◌}
 use Rattle.std.proofs.Common.{not-suc-le-zero, le_refl, arith, add-one, ◌∙◌, le-leb, lt-ltb, le-ltb, eq-eqb, ne_eqb, length-drop, drop_of_length-le, drop-cons, drop-drop, inl, inr}
 use Rattle.std.proofs.Math.Nat.{add-zero}
 use Rattle.std.proofs.Math.Decide.{ℕ_discrete, dec_le, dec_lt}
@@ -12,9 +12,9 @@ use borrow.Author.Rules.{part_to_end}
 use Rattle.sets.specs.RangeLaws.{true_is_not_false}
 use Rattle.sheets.specs.Lines.{newline}
 use Rattle.dimacs.specs.Figures.{number, is_figure}
-use Rattle.dimacs.specs.Lines.{before, Line, line, onto, lines, Kind, comment, problem, edge, other, blank, letter_c, letter_e, letter_p, most_edges}
+use Rattle.dimacs.specs.Lines.{before, line, onto, lines, Kind, comment, problem, edge, other, blank, letter_c, letter_e, letter_p, most_edges}
 use Rattle.dimacs.specs.Lines.{problem_word, edge_word, starts, first_field, second_field, is_pair, problem_kind, edge_kind, behind, shape_of, kind_of}
-use Rattle.dimacs.specs.Setting.{above, no_figure, capped, figure_value, kind_told, capped_kind, line_length, first_line, FirstLine}
+use Rattle.dimacs.specs.Setting.{no_figure, capped, figure_value, kind_told, capped_kind, line_length, first_line, FirstLine}
 use Rattle.dimacs.specs.FigureLaws.{figure_empty}
 use Rattle.dimacs.specs.declared.lines.Kind.{Kind as ToldKind}
 use Rattle.dimacs.specs.declared.lines.Kind.TheVariants.{Other}

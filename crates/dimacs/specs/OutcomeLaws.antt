@@ -2,7 +2,7 @@
 -- where a line `e u v` of the text joins them; so that neither the order of the e lines nor a repeated one changes the rows.
 --
 --   EdgeLine u v ls     one of the lines ls is `e u v`
-use Rattle.std.specs.Prelude.{ℕ, suc, ◌+◌, ◌-◌, ◌^◌, ◌≤◌, ◌<◌, ◌≡◌, Bool, true, false, not, ◌||◌, ◌⊎◌, eqb, length}
+use Rattle.std.specs.Prelude.{ℕ, suc, ◌+◌, ◌-◌, ◌^◌, ◌≤◌, ◌<◌, ◌≡◌, ◌⊎◌, length}
 use Rattle.std.proofs.Common.{arith, sym, ap, ◌∙◌, eqb-true, ltb-false}
 use Rattle.std.proofs.Math.Path.{refl, ap₂, subst}
 use Rattle.std.proofs.Math.Logic.{inl, inr}
@@ -14,13 +14,13 @@ use Rattle.sets.specs.Graph.{row}
 use Rattle.sets.specs.RangeLaws.{or_cases, or_left, or_right}
 use Rattle.judging.specs.Graph.{adjacent, Valid}
 use Rattle.judging.specs.GraphLaws.{adjacent_in, in_adjacent}
-use Rattle.judging.specs.Refusal.{Reply, refused, answered, reply_number, Cause, first_cause, most_vertices}
+use Rattle.judging.specs.Refusal.{Reply, refused, answered, first_cause, most_vertices}
 use Rattle.judging.specs.Calls.{passed, graph_check}
 use Rattle.judging.specs.RefusalLaws.{answered_passed, answered_found, answered_value, passed_head, passed_tail, valid_checked}
 use Rattle.sheets.specs.Sheet.{room_cause}
 use Rattle.dimacs.specs.Lines.{Line, lines, Kind, comment, problem, edge, other, kind_of}
 use Rattle.dimacs.specs.Dimacs.{Edge, edge_of, is_edge, joins, rows_of, State, start, graph, next, and_then, read_lines, count_cause, finish, reading}
-use Rattle.dimacs.specs.Setting.{Proper, Accepted, Sound, edges_in}
+use Rattle.dimacs.specs.Setting.{Accepted, Sound, edges_in}
 use Rattle.dimacs.specs.RowLaws.{edge_cases, edge_one, rows_length, rows_valid, rows_unique, row-joins, joins-row, joins_mutual}
 use Rattle.dimacs.specs.StateLaws.{with_edge, FromOne, After, next_after}
 

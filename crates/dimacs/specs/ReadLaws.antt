@@ -1,5 +1,5 @@
 -- Laws of the reading as a whole: the loop over lines, the end, and what the call then leaves in the rows.
-use Rattle.std.specs.Prelude.{ℕ, suc, ◌+◌, ◌^◌, ◌≤◌, ◌<◌, ◌≡◌, Bool, true, false, eqb}
+use Rattle.std.specs.Prelude.{ℕ, ◌+◌, ◌^◌, ◌≤◌, ◌<◌, ◌≡◌}
 use native.Mathlib.Omega.{arith}
 use Rattle.std.proofs.Math.Path.{refl, sym, ap, ap₂, subst}
 use Rattle.std.proofs.Common.{◌∙◌}
@@ -9,14 +9,14 @@ use borrow.Author.Tests.{lt-ltb, le-ltb, eq-eqb, ne_eqb}
 use Rattle.std.proofs.Math.ListN.{length, take, drop, length-drop, drop_of_length-le}
 use Rattle.std.proofs.Math.Seq.{length-take-le}
 use Rattle.sets.specs.Words.{width}
-use Rattle.judging.specs.Refusal.{Reply, refused, answered, cause, first_cause}
+use Rattle.judging.specs.Refusal.{Reply, refused, answered, first_cause}
 use Rattle.judging.specs.RefusalLaws.{first_holds, first_skips}
 use Rattle.judging.specs.declared.Refusal.{Refusal}
 use Rattle.judging.specs.declared.Refusal.TheVariants.{DimacsLine, EdgeCount, Room}
 use Rattle.sheets.specs.Sheet.{room_cause, over}
-use Rattle.dimacs.specs.Lines.{Line, lines, Kind, kind_of}
+use Rattle.dimacs.specs.Lines.{lines, kind_of}
 use Rattle.dimacs.specs.Dimacs.{Edge, rows_of, State, start, graph, next, and_then, read_lines, count_cause, finish, reading, rows_after}
-use Rattle.dimacs.specs.Calls.{read_reply, count_of, ReadDimacs}
+use Rattle.dimacs.specs.Calls.{count_of, ReadDimacs}
 use Rattle.dimacs.specs.Setting.{kind_told, first_line, FirstLine, edges_in, Holds, Stands, Takes, Comes, Scanned, Ends}
 use Rattle.dimacs.specs.LineLaws.{lines_first}
 use Rattle.dimacs.specs.RowLaws.{rows_length, rows_front}

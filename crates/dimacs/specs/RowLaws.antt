@@ -1,7 +1,7 @@
 -- Laws of the rows of a list of edges: they are the only rows that say what the edges say, they are those of a valid graph, and one edge more is set in two
 -- of them.
-use Rattle.std.specs.Prelude.{ℕ, ◌*◌, ◌^◌, ◌≤◌, ◌<◌, ◌≡◌, refl, Bool, true, false, ◌&&◌, ◌||◌, cond, ◌≢◌, ◌⊎◌, T, eqb, take, set}
-use Rattle.std.proofs.Common.{arith, sym, ap₂, ◌∙◌, inl, inr, eqb→eq, eq-eqb, length-take-le, get_or-take, ext_get_or}
+use Rattle.std.specs.Prelude.{ℕ, ◌*◌, ◌^◌, ◌≤◌, ◌<◌, ◌≡◌, Bool, ◌&&◌, ◌||◌, cond, ◌≢◌, ◌⊎◌, T, eqb, take, set}
+use Rattle.std.proofs.Common.{arith, sym, ◌∙◌, inl, inr, eqb→eq, eq-eqb, length-take-le, get_or-take, ext_get_or}
 use Rattle.std.proofs.Math.Decide.{ℕ_discrete}
 use Rattle.std.proofs.Math.Path.{ap, subst}
 use mathlib.Core.List.{List, [], ◌∷◌}

@@ -19,7 +19,7 @@ use Rattle.sheets.specs.Lines.{newline}
 use Rattle.judging.specs.Refusal.{Reply, refused, answered, most_vertices}
 use Rattle.judging.specs.Calls.{refusal}
 use Rattle.dimacs.specs.Figures.{is_decimal, number, is_figure}
-use Rattle.dimacs.specs.Lines.{before, Line, line, lines, Kind, comment, problem, edge, other, most_edges, kind_of}
+use Rattle.dimacs.specs.Lines.{before, Line, line, Kind, comment, problem, edge, other, most_edges, kind_of}
 use Rattle.dimacs.specs.Dimacs.{Edge, joins, rows_of, State, start, graph}
 use Rattle.dimacs.specs.declared.lines.Kind.{Kind as ToldKind}
 use Rattle.dimacs.specs.declared.lines.Kind.TheVariants as told

@@ -1,6 +1,7 @@
 // The largest k-plex that holds forced vertices, and the lowest mask of one of its size. No vertex is silent here: what is listed is asked for with the
 // silent set 0.
 #![tactic(auto)]
+
 ghost use Rattle.std.specs.Prelude.{◌≡◌, ◌≤◌};
 ghost use Rattle.sets.specs.Words.{mask, masks};
 ghost use Rattle.judging.specs.Request.{request};

@@ -1,0 +1,13 @@
+-- A k-plex that holds s has of each part at most what its member may still miss, and so of all parts the sum.
+use Prim.Native.Nat.{ℕ, ◌+◌}
+use mathlib.Core.Path.{◌≡◌}
+use Rattle.sets.specs.Set.{Sub, size}
+use Rattle.sets.specs.Words.{mask, masks}
+use Rattle.largest.specs.Colour.{Shared}
+use Rattle.largest.proofs.colours.by_members.Given as goal
+
+abbrev pub invariant-loop-s : goal.invariant-loop-s
+invariant-loop-s l = ((n : ℕ) × Shared (masks l.rows) l.k (mask l.s) (mask l.initial.left) n (mask l.left) × (l.most ≡ size (mask l.s) + n)) × Sub (mask l.todo) (mask l.s)
+
+abbrev pub decreases-loop-s : goal.decreases-loop-s
+decreases-loop-s l = mask l.todo
