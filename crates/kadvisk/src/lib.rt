@@ -1,6 +1,7 @@
 // The library for C and Rust: every public call on numbers and lent buffers, each answered by a plain struct. None asks anything of its caller
 // beyond what its types say.
 #![tactic(auto)]
+
 ghost use Rattle.std.specs.Prelude.{◌≡◌};
 ghost use Rattle.sets.specs.Words.{masks};
 ghost use Rattle.judging.specs.Request.{request, asked};

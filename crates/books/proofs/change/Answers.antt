@@ -2,7 +2,6 @@
 -- rows are changed.
 use native.Mathlib.Omega.{arith}
 use mathlib.Core.Path.{◌≡◌, sym, ap, ◌∙◌}
-use borrow.Author.Rules.{rules}
 use lib.ListN.{length}
 use Rattle.sets.specs.Words.{masks}
 use Rattle.sets.specs.Words.Masks.{count_masks}

@@ -1,5 +1,4 @@
 -- Every set of the list lies in the candidates, whatever the size of the memory that it is made in.
-use borrow.Author.Rules.{rules}
 use Rattle.sets.specs.Words.{mask, masks}
 use Rattle.judging.specs.Request.{asked}
 use Rattle.search.specs.Start.{Accepted, Candidates}

@@ -2,7 +2,6 @@
 use Prim.Native.Nat.{ℕ, ◌≤◌}
 use native.Mathlib.Omega.{arith}
 use mathlib.Core.List.{List}
-use borrow.Author.Rules.{rules}
 use lib.ListN.{length}
 use Rattle.sets.specs.Words.{masks}
 use Rattle.sets.specs.Words.Masks.{count_masks}
@@ -29,7 +28,7 @@ pub returns : goal.returns
 returns c =
     let slots_fit : c.collect-m.result ≤ length (masks c.args.slots.now) = omega (arith, c.if-count-m.false, c.count.ensures) in
     let held_fits : c.collect-m.result ≤ length (masks c.collect-m.new.slots) = omega (arith, c.if-count-m-2.false, c.count-2.ensures) in
-    let held : List ℕ = c.collect-m.last.1.1.1.1.0 in
+    let held : List ℕ = c.collect-m.new.slots in
     renews_copied c.collect-m.ensures slots_fit
     (omega (arith, held_fits, count_masks held, count_masks c.args.held.now, c.collect-m.auto.slots))
     c.copy.ensures

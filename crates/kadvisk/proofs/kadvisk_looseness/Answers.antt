@@ -1,0 +1,5 @@
+-- The outcome is that of the answer of `looseness` to the set of the mask.
+use Rattle.kadvisk.proofs.kadvisk_looseness.Goals as goal
+
+pub returns : goal.returns
+returns c = rw (← c.of_word.ensures, ← c.looseness-found.ensures) c.loose.ensures

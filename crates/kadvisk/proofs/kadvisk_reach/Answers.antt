@@ -1,0 +1,5 @@
+-- The outcome is that of the answer of `find_reach`.
+use Rattle.kadvisk.proofs.kadvisk_reach.Goals as goal
+
+pub returns : goal.returns
+returns c = rw (← c.find_reach-found.ensures) c.reach.ensures

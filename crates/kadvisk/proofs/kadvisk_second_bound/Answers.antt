@@ -1,0 +1,5 @@
+-- The outcome is that of the answer of `second_bound` to the sets of the masks.
+use Rattle.kadvisk.proofs.kadvisk_second_bound.Goals as goal
+
+pub returns : goal.returns
+returns c = rw (← c.of_word.ensures, ← c.of_word-2.ensures, ← c.second_bound-found.ensures) c.bound.ensures
