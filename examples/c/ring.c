@@ -1,6 +1,6 @@
 /* Five vertices in a ring: tells how loose a set is, takes the core at two floors, lists the maximal 2-plexes of three or more vertices, and again with a
  * silent one, finds the largest that holds a vertex, keeps the list in a book while an edge is added, and writes and reads the sheet. Beside a sixth vertex
- * that nobody linked the list is the same, and there is no sheet. Last the ring is read from a text in the DIMACS form. */
+ * that nobody linked the list is the same, and there is no sheet. */
 #include <inttypes.h>
 #include <stdio.h>
 #include <string.h>
@@ -72,14 +72,5 @@ int main(void) {
     printf("beside an unlinked vertex: %zu\n", list.value);
     sheet = kadvisk_write_sheet(unlinked, 6, 2, 3, 0, text, sizeof text);
     refusal(sheet.number, sheet.value);
-
-    /* the ring in the DIMACS form, with vertices from 1; without its last line, and with half of that line, it is refused */
-    const char *graph = "c five vertices in a ring\np edge 5 5\ne 1 2\ne 2 3\ne 3 4\ne 4 5\ne 5 1\n";
-    kadvisk_outcome dimacs = kadvisk_read_dimacs((const uint8_t *)graph, strlen(graph), rows, 64);
-    printf("DIMACS: n %zu, row 0 %02" PRIX64 "\n", dimacs.value, rows[0]);
-    for (size_t less = 6; less >= 3; less -= 3) {
-        dimacs = kadvisk_read_dimacs((const uint8_t *)graph, strlen(graph) - less, rows, 64);
-        refusal(dimacs.number, dimacs.value);
-    }
     return 0;
 }

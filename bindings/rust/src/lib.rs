@@ -68,7 +68,7 @@ pub enum Refusal {
 }
 
 impl Refusal {
-    /// The refusal of this number and value; none where the number is not 1 to 16.
+    /// The refusal of this number and value; none where the number is not 1 to 14. Reading a graph in the DIMACS form tells 15 and 16 by itself.
     pub fn new(number: usize, value: usize) -> Option<Refusal> {
         Some(match number {
             1 => Refusal::Vertices,
@@ -85,8 +85,6 @@ impl Refusal {
             12 => Refusal::Loop,
             13 => Refusal::Unchanged,
             14 => Refusal::Isolated(value),
-            15 => Refusal::DimacsLine(value),
-            16 => Refusal::EdgeCount,
             _ => return None,
         })
     }
@@ -507,5 +505,10 @@ pub fn write_sheet(rows: &[u64], slack: usize, floor: usize, silent: u64, text: 
 /// # Ok::<(), kadvisk::Refusal>(())
 /// ```
 pub fn read_dimacs(text: &[u8], rows: &mut [u64]) -> Result<usize, Refusal> {
-    valued(unsafe { ffi::kadvisk_read_dimacs(text.as_ptr(), text.len(), rows.as_mut_ptr(), rows.len()) })
+    let outcome = unsafe { ffi::kadvisk_read_dimacs(text.as_ptr(), text.len(), rows.as_mut_ptr(), rows.len()) };
+    match outcome.number {
+        15 => Err(Refusal::DimacsLine(outcome.value)),
+        16 => Err(Refusal::EdgeCount),
+        _ => valued(outcome),
+    }
 }

@@ -218,6 +218,7 @@ fn refusals() {
         assert!(!refusal.to_string().is_empty());
     }
     assert_eq!(Refusal::new(0, 0), None);
+    assert_eq!(Refusal::new(15, 0), None);
     assert_eq!(Refusal::new(17, 0), None);
     assert_eq!(Refusal::new(usize::MAX, 0), None);
     assert_eq!(Refusal::Isolated(5).to_string(), "row 5 is 0: vertex 5 has no neighbour");

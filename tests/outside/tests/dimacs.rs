@@ -664,3 +664,19 @@ fn worked_edges() {
     hold_read(&longest, &instances::complete(64));
     assert_eq!(lines_of(&longest).len(), 2017);
 }
+
+#[test]
+fn random_graphs_some_of_them_damaged() {
+    let (mut rng, mut numbers) = (Rng(37), [0; NUMBERS]);
+    for _ in 0..many(10_000) {
+        let most = if rng.chance(0.1) { 64 } else { 8 };
+        let rows = graph(&mut rng, 1, most);
+        let mut text = dimacs_text(&mut rng, &rows);
+        for _ in 0..rng.below(3) {
+            damage_dimacs(&mut rng, &mut text);
+        }
+        let room = rng.below(70);
+        numbers[hold(&text, room)] += 1;
+    }
+    assert!((0..NUMBERS).all(|number| (numbers[number] > 10) == [0, 1, 9, 15, 16].contains(&number)), "{numbers:?}");
+}

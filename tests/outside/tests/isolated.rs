@@ -5,7 +5,7 @@ use outside::calls::*;
 use outside::cases::{all_graphs, isolate, linked, many, silent, subset};
 use outside::instances::{self, Rng};
 use outside::plain::{self, full};
-use outside::refusals::{self, when, MOST_SLACK, NUMBERS};
+use outside::refusals::{self, when, MOST_SLACK};
 use outside::{brute, hold, text};
 
 const ROW: u64 = 0x5555_0000_AAAA_FFFF;
@@ -89,7 +89,7 @@ fn a_sheet_of_one_vertex_is_always_declined() {
         (2 * k - 1..=64).for_each(|q| hold_sheet(&[0], (k, q, silent), Some(0)));
     }
     // whatever its numbers, its silent vertices and its row are
-    let mut numbers = [0; NUMBERS];
+    let mut numbers = [0; 15];
     for (k, q) in (0..256).flat_map(|k: usize| [0, 1, k, (2 * k).clamp(1, 256) - 1, 64, 65, 255].map(|q| (k, q))) {
         for (row, silent) in [0, 1, 2, 1 << 63, u64::MAX].into_iter().flat_map(|row| [(row, 0), (row, 1), (row, 2), (row, u64::MAX)]) {
             let owed = refusals::writing(&[row], k, q, silent).expect("it is declined");
@@ -101,7 +101,7 @@ fn a_sheet_of_one_vertex_is_always_declined() {
         }
     }
     println!("outcomes by number: {numbers:?}");
-    assert!((0..NUMBERS).all(|number| (numbers[number] > 10) == [2, 3, 4, 7, 14].contains(&number)));
+    assert!((0..15).all(|number| (numbers[number] > 10) == [2, 3, 4, 7, 14].contains(&number)));
 }
 
 #[test]

@@ -2,11 +2,10 @@
 use kadvisk::ffi::Outcome;
 use outside::book::{Book, Change};
 use outside::calls::*;
-use outside::cases::{damage, damage_dimacs, dimacs_text, faulty_linked_rows, faulty_rows};
-use outside::cases::{first_of, floor, graph, linked, many, slack, subset, LOWEST_ISOLATED};
+use outside::cases::{damage, faulty_linked_rows, faulty_rows, first_of, floor, graph, linked, many, slack, subset, LOWEST_ISOLATED};
 use outside::instances::Rng;
-use outside::refusals::{self, when, Refused, NUMBERS};
-use outside::{dimacs, plain, text};
+use outside::refusals::{self, when, Refused};
+use outside::{plain, text};
 
 const GARBAGE: u64 = 0x0123_4567_89AB_CDEF;
 
@@ -31,6 +30,9 @@ fn set(rng: &mut Rng, n: usize) -> u64 {
         subset(rng, n.min(64))
     }
 }
+
+/// One more than the highest number of a refusal.
+const NUMBERS: usize = 15;
 
 struct Tally([usize; NUMBERS]);
 
@@ -211,27 +213,6 @@ fn writing() {
         assert_eq!(bytes[written.len()..], vec![0xC3; room - written.len()]);
     }
     tally.all_of(&[0, 1, 2, 3, 4, 5, 7, 9, 14]);
-}
-
-#[test]
-fn reading_dimacs() {
-    let (mut rng, mut tally) = (Rng(37), Tally::none());
-    for _ in 0..many(10_000) {
-        let most = if rng.chance(0.1) { 64 } else { 8 };
-        let rows = graph(&mut rng, 1, most);
-        let mut text = dimacs_text(&mut rng, &rows);
-        for _ in 0..rng.below(3) {
-            damage_dimacs(&mut rng, &mut text);
-        }
-        let garbage: Vec<u64> = (0..rng.below(70)).map(|a| GARBAGE + a as u64).collect();
-        let mut lent = garbage.clone();
-        let outcome = read_dimacs(&text, &mut lent);
-        let read = dimacs::read(&text, garbage.len());
-        let n = read.as_ref().map_or(0, Vec::len);
-        tally.hold(outcome, read.as_ref().err().copied(), || success(n, 0));
-        assert_eq!(lent, [&read.unwrap_or_default()[..], &garbage[n..]].concat(), "a refusal leaves every row");
-    }
-    tally.all_of(&[0, 1, 9, 15, 16]);
 }
 
 #[test]

@@ -1,10 +1,10 @@
 //! Sheets: valid and damaged texts against a reader by lines, round trips, and what the buffers hold. In most graphs each vertex has a neighbour; a graph in
 //! which one has none is declined with 14.
 use outside::calls::{read, read_sheet, refused, success, unread, write_sheet};
-use outside::cases::{damage, faulty_linked_rows, first_of, graph, isolate, lines_of, linked, many, mostly_linked, silent, LOWEST_ISOLATED};
+use outside::cases::{damage, faulty_linked_rows, first_of, graph, isolate, linked, many, mostly_linked, silent, LOWEST_ISOLATED};
 use outside::instances::{self, Rng};
 use outside::plain::full;
-use outside::refusals::{isolated, when, MOST_SLACK, NUMBERS};
+use outside::refusals::{isolated, when, MOST_SLACK};
 use outside::text;
 
 const ROW: u64 = 0x5555_0000_AAAA_FFFF;
@@ -96,7 +96,7 @@ fn what_is_read_is_written_back() {
 
 #[test]
 fn a_buffer_that_is_too_short() {
-    let (mut rng, mut numbers) = (Rng(22), [0; NUMBERS]);
+    let (mut rng, mut numbers) = (Rng(22), [0; 15]);
     for _ in 0..many(300) {
         let (rows, (k, q)) = (mostly_linked(&mut rng, 64), request(&mut rng));
         let silent = silent(&mut rng, rows.len());
@@ -177,7 +177,7 @@ fn every_place_of_a_sheet_with_a_byte_more_or_less() {
 #[test]
 fn sheets_with_wrong_numbers_and_tables() {
     let mut rng = Rng(26);
-    let mut numbers = [0; NUMBERS];
+    let mut numbers = [0; 15];
     for _ in 0..many(20_000) {
         let mut rows = mostly_linked(&mut rng, 64);
         damage(&mut rng, &mut rows);
@@ -222,9 +222,14 @@ fn random_bytes_and_lines() {
     }
 }
 
+/// The lines of a sheet, each with its byte 10.
+fn lines(sheet: &[u8]) -> Vec<Vec<u8>> {
+    sheet.split_inclusive(|&byte| byte == b'\n').map(<[u8]>::to_vec).collect()
+}
+
 #[test]
 fn every_byte_of_line_2_changed_to_every_value() {
-    let (mut rng, mut numbers) = (Rng(28), [0; NUMBERS]);
+    let (mut rng, mut numbers) = (Rng(28), [0; 15]);
     for n in [1, 2, 4, 5, 31, 32, 60, 63, 64] {
         for (i, rows) in both_kinds(&mut rng, n).iter().enumerate() {
             let declined = i == 1 || n == 1;
@@ -241,14 +246,14 @@ fn every_byte_of_line_2_changed_to_every_value() {
         }
     }
     println!("sheets with a byte of line 2 changed, by the number of the outcome: {numbers:?}");
-    assert!((0..NUMBERS).all(|number| (numbers[number] > 100) == [0, 7, 8, 14].contains(&number)));
+    assert!((0..15).all(|number| (numbers[number] > 100) == [0, 7, 8, 14].contains(&number)));
 }
 
 #[test]
 fn lines_left_out_and_doubled() {
     let mut rng = Rng(29);
     for _ in 0..many(100) {
-        let sheet = lines_of(&some_sheet(&mut rng, 12));
+        let sheet = lines(&some_sheet(&mut rng, 12));
         let n = sheet.len() - 2;
         for at in 0..sheet.len() {
             let (mut fewer, mut more, mut other) = (sheet.clone(), sheet.clone(), sheet.clone());
@@ -269,14 +274,14 @@ fn lines_left_out_and_doubled() {
 
 #[test]
 fn sheets_of_the_time_before_line_2() {
-    let (mut rng, mut numbers) = (Rng(30), [0; NUMBERS]);
+    let (mut rng, mut numbers) = (Rng(30), [0; 15]);
     for n in 1..=64 {
         let mut damaged = graph(&mut rng, n, n);
         damage(&mut rng, &mut damaged);
         let [right, wrong] = both_kinds(&mut rng, n);
         for (kind, rows) in [right, wrong, damaged].into_iter().enumerate() {
             let (k, q) = request(&mut rng);
-            let mut sheet = lines_of(&text::write(&rows, k, q, 0));
+            let mut sheet = lines(&text::write(&rows, k, q, 0));
             sheet.remove(1);
             for room in [0, n - 1, n, 64] {
                 let mut back = vec![ROW; room];
@@ -321,7 +326,7 @@ fn faulty(causes: [bool; 9], way: usize) -> (Vec<u8>, usize) {
     let number = |wrong: bool, values: [usize; 4], right: usize| if wrong { values[way] } else { right };
     let (n, k, q) = (number(vertices, [0, 65, 255, 128], 5), number(slack, [0, 6, 255, 32], 2), number(floor, [0, 2, 65, 255], 3));
     let silent = if silent { [1 << 5, 1 << 63, u64::MAX, 0x30][way] } else { SILENT[way] };
-    let mut sheet = lines_of(&text::write(&faulty_linked_rows([false, row, one_way, isolated], false, way), 1, 1, silent));
+    let mut sheet = lines(&text::write(&faulty_linked_rows([false, row, one_way, isolated], false, way), 1, 1, silent));
     sheet[0] = format!("{n:02X}{k:02X}{q:02X}{}", if heading { " \n" } else { "\n" }).into_bytes();
     let wrong = [2, 3, 7, 8][way];
     match (line, wrong) {
