@@ -8,6 +8,7 @@ use crate::tally::Tally;
 use crate::words::GARBAGE;
 use crate::{changes, graphs, list_edges, tally, words};
 use judging::Request;
+use std::io;
 
 // More slots than an edge case needs.
 const FEW_WORDS: usize = 40 * sets::WORDS;
@@ -19,16 +20,26 @@ const LOWER_OF_LATER: u64 = 5592404;
 
 // A change to a graph with the sets of these masks.
 fn leads_to(
+    rt: &impl Print,
     cases: Tally,
     rows: &mut [u64],
     request: Request,
     change: Change,
     masks: &[u64],
-) -> Tally {
+) -> io::Result<Tally> {
     let mut list = [0u64; FEW_WORDS];
     let mut slots = [0u64; FEW_WORDS];
     words::of_masks(masks, &mut list);
-    with_change(cases, rows, request, change, &list, masks.len(), &mut slots)
+    with_change(
+        rt,
+        cases,
+        rows,
+        request,
+        change,
+        &list,
+        masks.len(),
+        &mut slots,
+    )
 }
 
 // The opposite change, of the same edge by its other end.
@@ -42,6 +53,7 @@ fn opposite(change: Change) -> Change {
 
 // A change of the graph of the family with a vertex for each row, and the change back.
 fn built(
+    rt: &impl Print,
     cases: Tally,
     rows: &mut [u64],
     family: usize,
@@ -49,14 +61,15 @@ fn built(
     change: Change,
     masks: &[u64],
     back: &[u64],
-) -> Tally {
+) -> io::Result<Tally> {
     graphs::build(rows, family, 0);
-    let made = leads_to(cases, rows, request, change, masks);
-    leads_to(made, rows, request, opposite(change), back)
+    let made = leads_to(rt, cases, rows, request, change, masks)?;
+    leads_to(rt, made, rows, request, opposite(change), back)
 }
 
 // The same with n rows.
 pub fn sized(
+    rt: &impl Print,
     cases: Tally,
     family: usize,
     n: usize,
@@ -64,10 +77,11 @@ pub fn sized(
     change: Change,
     masks: &[u64],
     back: &[u64],
-) -> Tally {
+) -> io::Result<Tally> {
     let mut rows = [0u64; sets::TABLE];
     let end = words::end(&rows, n);
     built(
+        rt,
         cases,
         &mut rows[0..end],
         family,
@@ -79,7 +93,7 @@ pub fn sized(
 }
 
 // Graphs of two to five vertices.
-fn small(start: Tally) -> Tally {
+fn small(rt: &impl Print, start: Tally) -> io::Result<Tally> {
     let chord = [7u64, 14, 19, 29];
     let ring = [7u64, 14, 19, 25, 28];
     let path = [6u64, 9, 12];
@@ -87,6 +101,7 @@ fn small(start: Tally) -> Tally {
     let pair = [3u64, 4];
     let apart = [1u64, 2, 4];
     let mut cases = sized(
+        rt,
         start,
         graphs::RING,
         5,
@@ -94,8 +109,9 @@ fn small(start: Tally) -> Tally {
         joined(0, 2),
         &chord,
         &ring,
-    );
+    )?;
     cases = sized(
+        rt,
         cases,
         graphs::RING,
         4,
@@ -103,9 +119,10 @@ fn small(start: Tally) -> Tally {
         parted(0, 1),
         &path,
         &square,
-    );
-    cases = sized(cases, EMPTY, 3, ask(1, 1), joined(0, 1), &pair, &apart);
+    )?;
+    cases = sized(rt, cases, EMPTY, 3, ask(1, 1), joined(0, 1), &pair, &apart)?;
     sized(
+        rt,
         cases,
         EMPTY,
         2,
@@ -117,10 +134,11 @@ fn small(start: Tally) -> Tally {
 }
 
 // No set is large enough.
-fn none_listed(start: Tally) -> Tally {
+fn none_listed(rt: &impl Print, start: Tally) -> io::Result<Tally> {
     let none = [0u64; 0];
-    let mut cases = sized(start, EMPTY, 2, ask(2, 3), joined(1, 0), &none, &none);
+    let mut cases = sized(rt, start, EMPTY, 2, ask(2, 3), joined(1, 0), &none, &none)?;
     cases = sized(
+        rt,
         cases,
         graphs::RING,
         5,
@@ -128,8 +146,9 @@ fn none_listed(start: Tally) -> Tally {
         joined(0, 2),
         &none,
         &none,
-    );
+    )?;
     cases = sized(
+        rt,
         cases,
         graphs::RING,
         5,
@@ -137,12 +156,21 @@ fn none_listed(start: Tally) -> Tally {
         parted(4, 0),
         &none,
         &none,
-    );
-    sized(cases, EMPTY, 64, ask(5, 9), joined(62, 63), &none, &none)
+    )?;
+    sized(
+        rt,
+        cases,
+        EMPTY,
+        64,
+        ask(5, 9),
+        joined(62, 63),
+        &none,
+        &none,
+    )
 }
 
 // The chord of the ring, with an end of it silent, another vertex, all.
-fn silent_ring(start: Tally) -> Tally {
+fn silent_ring(rt: &impl Print, start: Tally) -> io::Result<Tally> {
     let none = [0u64; 0];
     let chord = [7u64, 14, 29];
     let ring = [7u64, 14, 28];
@@ -151,23 +179,23 @@ fn silent_ring(start: Tally) -> Tally {
     let other = ask_silent(2, 3, 16);
     let all = ask_silent(2, 3, 31);
     let to = joined(0, 2);
-    let mut cases = sized(start, family, 5, end, to, &chord[1..3], &ring[1..3]);
-    cases = sized(cases, family, 5, other, to, &chord, &ring[0..2]);
-    sized(cases, family, 5, all, to, &none, &none)
+    let mut cases = sized(rt, start, family, 5, end, to, &chord[1..3], &ring[1..3])?;
+    cases = sized(rt, cases, family, 5, other, to, &chord, &ring[0..2])?;
+    sized(rt, cases, family, 5, all, to, &none, &none)
 }
 
 // Two vertices, of which one is silent.
-fn silent_pair(start: Tally) -> Tally {
+fn silent_pair(rt: &impl Print, start: Tally) -> io::Result<Tally> {
     let none = [0u64; 0];
     let pair = [3u64];
     let apart = [2u64];
     let to = joined(0, 1);
-    let cases = sized(start, EMPTY, 2, ask_silent(1, 1, 1), to, &pair, &apart);
-    sized(cases, EMPTY, 2, ask_silent(1, 2, 1), to, &none, &none)
+    let cases = sized(rt, start, EMPTY, 2, ask_silent(1, 1, 1), to, &pair, &apart)?;
+    sized(rt, cases, EMPTY, 2, ask_silent(1, 2, 1), to, &none, &none)
 }
 
 // 64 vertices of which the lower half, all but one, or all are silent.
-fn silent_of_64(start: Tally) -> Tally {
+fn silent_of_64(rt: &impl Print, start: Tally) -> io::Result<Tally> {
     let none = [0u64; 0];
     let all = [u64::MAX];
     let lowest = [u64::MAX ^ 2, u64::MAX ^ 1];
@@ -176,10 +204,19 @@ fn silent_of_64(start: Tally) -> Tally {
     let half = ask_silent(1, 32, u64::MAX >> 32);
     let one = ask_silent(1, 1, u64::MAX >> 1);
     let no_one = ask_silent(1, 1, u64::MAX);
-    let mut cases = sized(start, complete, 64, half, parted(0, 1), &lowest, &all);
-    cases = sized(cases, complete, 64, half, parted(62, 63), &none, &all);
-    cases = sized(cases, complete, 64, one, parted(62, 63), &last, &all);
-    sized(cases, complete, 64, no_one, parted(62, 63), &none, &none)
+    let mut cases = sized(rt, start, complete, 64, half, parted(0, 1), &lowest, &all)?;
+    cases = sized(rt, cases, complete, 64, half, parted(62, 63), &none, &all)?;
+    cases = sized(rt, cases, complete, 64, one, parted(62, 63), &last, &all)?;
+    sized(
+        rt,
+        cases,
+        complete,
+        64,
+        no_one,
+        parted(62, 63),
+        &none,
+        &none,
+    )
 }
 
 // The masks become those of 64 vertices that leave out one of the lowest, in rising order.
@@ -194,35 +231,98 @@ fn all_but_one(masks: &mut [u64]) {
 }
 
 // Two of 64 vertices.
-fn two_of_64(start: Tally) -> Tally {
+fn two_of_64(rt: &impl Print, start: Tally) -> io::Result<Tally> {
     let none = [0u64; 0];
     let all = [u64::MAX];
     let lowest = [u64::MAX ^ 2, u64::MAX ^ 1];
     let last = [u64::MAX ^ (1 << 63), u64::MAX ^ (1 << 62)];
     let pair = [3u64 << 62];
     let complete = graphs::COMPLETE;
-    let mut cases = sized(start, complete, 64, ask(1, 1), parted(0, 1), &lowest, &all);
-    cases = sized(cases, complete, 64, ask(1, 1), parted(62, 63), &last, &all);
-    cases = sized(cases, complete, 64, ask(1, 64), parted(0, 63), &none, &all);
-    sized(cases, EMPTY, 64, ask(1, 2), joined(62, 63), &pair, &none)
+    let mut cases = sized(
+        rt,
+        start,
+        complete,
+        64,
+        ask(1, 1),
+        parted(0, 1),
+        &lowest,
+        &all,
+    )?;
+    cases = sized(
+        rt,
+        cases,
+        complete,
+        64,
+        ask(1, 1),
+        parted(62, 63),
+        &last,
+        &all,
+    )?;
+    cases = sized(
+        rt,
+        cases,
+        complete,
+        64,
+        ask(1, 64),
+        parted(0, 63),
+        &none,
+        &all,
+    )?;
+    sized(
+        rt,
+        cases,
+        EMPTY,
+        64,
+        ask(1, 2),
+        joined(62, 63),
+        &pair,
+        &none,
+    )
 }
 
 // 64 vertices at the limit of slack, and beyond it with six sets.
-fn at_limit(start: Tally, without: &[u64]) -> Tally {
+fn at_limit(rt: &impl Print, start: Tally, without: &[u64]) -> io::Result<Tally> {
     let none = [0u64; 0];
     let all = [u64::MAX];
     let complete = graphs::COMPLETE;
     let lacking = graphs::LACKING;
-    let mut cases = sized(start, complete, 64, ask(5, 9), parted(0, 1), &all, &all);
-    cases = sized(cases, complete, 64, ask(5, 64), parted(62, 63), &all, &all);
-    cases = sized(cases, lacking, 64, ask(5, 9), parted(0, 5), without, &all);
-    sized(cases, lacking, 64, ask(5, 64), parted(5, 0), &none, &all)
+    let mut cases = sized(rt, start, complete, 64, ask(5, 9), parted(0, 1), &all, &all)?;
+    cases = sized(
+        rt,
+        cases,
+        complete,
+        64,
+        ask(5, 64),
+        parted(62, 63),
+        &all,
+        &all,
+    )?;
+    cases = sized(
+        rt,
+        cases,
+        lacking,
+        64,
+        ask(5, 9),
+        parted(0, 5),
+        without,
+        &all,
+    )?;
+    sized(
+        rt,
+        cases,
+        lacking,
+        64,
+        ask(5, 64),
+        parted(5, 0),
+        &none,
+        &all,
+    )
 }
 
-fn slack_of_5(cases: Tally) -> Tally {
+fn slack_of_5(rt: &impl Print, cases: Tally) -> io::Result<Tally> {
     let mut without = [0u64; 6];
     all_but_one(&mut without);
-    at_limit(cases, &without)
+    at_limit(rt, cases, &without)
 }
 
 // Is the list of the ring of five five sets?
@@ -255,10 +355,15 @@ fn opened() -> bool {
     keeps(&mut rows, &mut slots, &mut expected)
 }
 
-pub fn found() -> Tally {
-    let cases = tally::with(tally::none(), opened());
-    let plain = slack_of_5(two_of_64(none_listed(small(cases))));
-    silent_of_64(silent_pair(silent_ring(plain)))
+pub fn found(rt: &impl Print) -> io::Result<Tally> {
+    let mut cases = tally::with(tally::none(), opened());
+    cases = small(rt, cases)?;
+    cases = none_listed(rt, cases)?;
+    cases = two_of_64(rt, cases)?;
+    cases = slack_of_5(rt, cases)?;
+    cases = silent_ring(rt, cases)?;
+    cases = silent_pair(rt, cases)?;
+    silent_of_64(rt, cases)
 }
 
 // The masks with one vertex of each part of two, in rising order: the lower one, or that of a digit more. Behind them comes the mask `last`.
@@ -275,6 +380,7 @@ fn transversals(list: &mut [u64], m: usize, low: u64, digits: u64, last: u64) {
 
 // A change to a graph with these, and the mask `last` where it is not empty.
 fn to_transversals(
+    rt: &impl Print,
     cases: Tally,
     rows: &mut [u64],
     request: Request,
@@ -285,28 +391,30 @@ fn to_transversals(
     last: u64,
     list: &mut [u64],
     slots: &mut [u64],
-) -> Tally
+) -> io::Result<Tally>
     requires { m ≤ 4096 }
 {
     transversals(list, m, low, digits, last);
     let all = if last == 0 { m } else { m + 1 };
-    with_change(cases, rows, request, change, list, all, slots)
+    with_change(rt, cases, rows, request, change, list, all, slots)
 }
 
 // Twelve parts of two, of which the first is joined and parted again, and at most one isolated vertex.
 fn first_part(
+    rt: &impl Print,
     cases: Tally,
     rows: &mut [u64],
     last: u64,
     list: &mut [u64],
     slots: &mut [u64],
-) -> Tally {
+) -> io::Result<Tally> {
     let request = ask(1, 1);
     let to = joined(0, 1);
     let back = parted(0, 1);
     let later = LOWER_OF_LATER;
     graphs::build(rows, graphs::COCKTAIL, 0);
     let made = to_transversals(
+        rt,
         cases,
         rows,
         request,
@@ -317,60 +425,92 @@ fn first_part(
         last,
         list,
         slots,
-    );
+    )?;
     to_transversals(
-        made, rows, request, back, 4096, LOWER, LOWER, last, list, slots,
+        rt, made, rows, request, back, 4096, LOWER, LOWER, last, list, slots,
     )
 }
 
 // The same and two isolated vertices, which are joined and parted again.
-fn last_part(cases: Tally, rows: &mut [u64], list: &mut [u64], slots: &mut [u64]) -> Tally {
+fn last_part(
+    rt: &impl Print,
+    cases: Tally,
+    rows: &mut [u64],
+    list: &mut [u64],
+    slots: &mut [u64],
+) -> io::Result<Tally> {
     let request = ask(1, 2);
     let to = joined(24, 25);
     let back = parted(25, 24);
     let pair = 3u64 << 24;
     graphs::build(rows, graphs::COCKTAIL, 0);
     let made = to_transversals(
-        cases, rows, request, to, 4096, LOWER, LOWER, pair, list, slots,
-    );
+        rt, cases, rows, request, to, 4096, LOWER, LOWER, pair, list, slots,
+    )?;
     to_transversals(
-        made, rows, request, back, 4096, LOWER, LOWER, 0, list, slots,
+        rt, made, rows, request, back, 4096, LOWER, LOWER, 0, list, slots,
     )
 }
 
 // Two parts of eight: 4,900 masks at slack 4.
-fn two_parts(cases: Tally, rows: &mut [u64], list: &mut [u64], slots: &mut [u64]) -> Tally {
+fn two_parts(
+    rt: &impl Print,
+    cases: Tally,
+    rows: &mut [u64],
+    list: &mut [u64],
+    slots: &mut [u64],
+) -> io::Result<Tally> {
     graphs::build(rows, graphs::MULTIPARTITE, 0);
-    changes::changes(cases, rows, ask(4, 7), 0, list, slots)
+    changes::changes(rt, cases, rows, ask(4, 7), 0, list, slots)
 }
 
 // The same in rows of its own; and twelve parts of two with none, one and two isolated vertices.
-fn with_16(cases: Tally, list: &mut [u64], slots: &mut [u64]) -> Tally {
+fn with_16(
+    rt: &impl Print,
+    cases: Tally,
+    list: &mut [u64],
+    slots: &mut [u64],
+) -> io::Result<Tally> {
     let mut rows = [0u64; 16 * sets::WORDS];
-    two_parts(cases, &mut rows, list, slots)
+    two_parts(rt, cases, &mut rows, list, slots)
 }
 
-fn with_24(cases: Tally, list: &mut [u64], slots: &mut [u64]) -> Tally {
+fn with_24(
+    rt: &impl Print,
+    cases: Tally,
+    list: &mut [u64],
+    slots: &mut [u64],
+) -> io::Result<Tally> {
     let mut rows = [0u64; 24 * sets::WORDS];
-    first_part(cases, &mut rows, 0, list, slots)
+    first_part(rt, cases, &mut rows, 0, list, slots)
 }
 
-fn with_25(cases: Tally, list: &mut [u64], slots: &mut [u64]) -> Tally {
+fn with_25(
+    rt: &impl Print,
+    cases: Tally,
+    list: &mut [u64],
+    slots: &mut [u64],
+) -> io::Result<Tally> {
     let mut rows = [0u64; 25 * sets::WORDS];
-    first_part(cases, &mut rows, 1 << 24, list, slots)
+    first_part(rt, cases, &mut rows, 1 << 24, list, slots)
 }
 
-fn with_26(cases: Tally, list: &mut [u64], slots: &mut [u64]) -> Tally {
+fn with_26(
+    rt: &impl Print,
+    cases: Tally,
+    list: &mut [u64],
+    slots: &mut [u64],
+) -> io::Result<Tally> {
     let mut rows = [0u64; 26 * sets::WORDS];
-    last_part(cases, &mut rows, list, slots)
+    last_part(rt, cases, &mut rows, list, slots)
 }
 
 // Long lists: up to as many sets as the program has slots, and more.
-pub fn many() -> Tally {
+pub fn many(rt: &impl Print) -> io::Result<Tally> {
     let mut list = [0u64; MASK_WORDS];
     let mut slots = [0u64; SLOT_WORDS];
-    let mut cases = with_16(tally::none(), &mut list, &mut slots);
-    cases = with_24(cases, &mut list, &mut slots);
-    cases = with_25(cases, &mut list, &mut slots);
-    with_26(cases, &mut list, &mut slots)
+    let mut cases = with_16(rt, tally::none(), &mut list, &mut slots)?;
+    cases = with_24(rt, cases, &mut list, &mut slots)?;
+    cases = with_25(rt, cases, &mut list, &mut slots)?;
+    with_26(rt, cases, &mut list, &mut slots)
 }

@@ -8,6 +8,7 @@ use crate::words::GARBAGE;
 use crate::{all_sets, graphs, list_edges, sheet, silent, tally, words};
 use judging::Request;
 use judging::check::MOST_SLACK;
+use std::io;
 
 // Two vertices, and whether they are adjacent afterwards.
 #[derive(Clone, Copy)]
@@ -128,15 +129,22 @@ fn agrees(
 }
 
 // A case more. A difference prints the graph.
-fn counted(cases: Tally, rows: &[u64], request: Request, right: bool) -> Tally {
+fn counted(
+    rt: &impl Print,
+    cases: Tally,
+    rows: &[u64],
+    request: Request,
+    right: bool,
+) -> io::Result<Tally> {
     if !right {
-        sheet::print(rows, request);
+        sheet::print(rt, rows, request)?;
     }
-    tally::with(cases, right)
+    Ok(tally::with(cases, right))
 }
 
 // The same with so many slots, if there are so many.
 fn with_slots(
+    rt: &impl Print,
     cases: Tally,
     rows: &mut [u64],
     request: Request,
@@ -145,17 +153,18 @@ fn with_slots(
     m: usize,
     slots: &mut [u64],
     room: usize,
-) -> Tally {
+) -> io::Result<Tally> {
     if sets::count(slots) < room {
-        return tally::with(cases, false);
+        return Ok(tally::with(cases, false));
     }
     let end = words::end(slots, room);
     let right = agrees(rows, request, change, masks, m, &mut slots[0..end]);
-    counted(cases, rows, request, right)
+    counted(rt, cases, rows, request, right)
 }
 
 // With a slot too few, where there can be.
 fn with_too_few(
+    rt: &impl Print,
     cases: Tally,
     rows: &mut [u64],
     request: Request,
@@ -163,15 +172,16 @@ fn with_too_few(
     masks: &[u64],
     m: usize,
     slots: &mut [u64],
-) -> Tally {
+) -> io::Result<Tally> {
     if m == 0 {
-        return cases;
+        return Ok(cases);
     }
-    with_slots(cases, rows, request, change, masks, m, slots, m - 1)
+    with_slots(rt, cases, rows, request, change, masks, m, slots, m - 1)
 }
 
 // From the graph before once more, with slots just enough. The same change again is refused.
 fn with_enough(
+    rt: &impl Print,
     cases: Tally,
     rows: &mut [u64],
     request: Request,
@@ -179,15 +189,16 @@ fn with_enough(
     masks: &[u64],
     m: usize,
     slots: &mut [u64],
-) -> Tally {
+) -> io::Result<Tally> {
     graphs::set_edge(rows, change.a, change.b, !change.adjacent);
-    let exact = with_slots(cases, rows, request, change, masks, m, slots, m);
+    let exact = with_slots(rt, cases, rows, request, change, masks, m, slots, m)?;
     let right = declines(rows, request, change, slots, 13, 0);
-    counted(exact, rows, request, right)
+    counted(rt, exact, rows, request, right)
 }
 
 // One change to a graph with m masks: slots too few by one, more than enough, and just enough.
 pub fn with_change(
+    rt: &impl Print,
     cases: Tally,
     rows: &mut [u64],
     request: Request,
@@ -195,13 +206,23 @@ pub fn with_change(
     masks: &[u64],
     m: usize,
     slots: &mut [u64],
-) -> Tally {
+) -> io::Result<Tally> {
     if MASKS < m {
-        return tally::with(cases, false);
+        return Ok(tally::with(cases, false));
     }
-    let few = with_too_few(cases, rows, request, change, masks, m, slots);
-    let more = with_slots(few, rows, request, change, masks, m, slots, m + EXTRA_SLOTS);
-    with_enough(more, rows, request, change, masks, m, slots)
+    let few = with_too_few(rt, cases, rows, request, change, masks, m, slots)?;
+    let more = with_slots(
+        rt,
+        few,
+        rows,
+        request,
+        change,
+        masks,
+        m,
+        slots,
+        m + EXTRA_SLOTS,
+    )?;
+    with_enough(rt, more, rows, request, change, masks, m, slots)
 }
 
 // Are a and b adjacent?
@@ -257,64 +278,68 @@ fn list_after(rows: &[u64], request: Request, change: Change, masks: &mut [u64])
 
 // The change that x decides.
 fn with_chosen(
+    rt: &impl Print,
     cases: Tally,
     rows: &mut [u64],
     request: Request,
     x: u64,
     masks: &mut [u64],
     slots: &mut [u64],
-) -> Tally {
+) -> io::Result<Tally> {
     let change = chosen(rows, x);
     let m = list_after(rows, request, change, masks);
-    with_change(cases, rows, request, change, masks, m, slots)
+    with_change(rt, cases, rows, request, change, masks, m, slots)
 }
 
 // Some changes, one after the other.
 pub fn changes(
+    rt: &impl Print,
     start: Tally,
     rows: &mut [u64],
     request: Request,
     variant: usize,
     masks: &mut [u64],
     slots: &mut [u64],
-) -> Tally {
+) -> io::Result<Tally> {
     let mut x = graphs::seed(sets::count(rows), variant)
         ^ graphs::seed(request.slack, request.floor);
     let mut cases = start;
     let mut i = 0;
     while i < CHANGES {
-        cases = with_chosen(cases, rows, request, x, masks, slots);
+        cases = with_chosen(rt, cases, rows, request, x, masks, slots)?;
         x = graphs::next(x);
         i += 1;
     }
-    cases
+    Ok(cases)
 }
 
 // One slack: the two least floors, and the least with the silent vertices that the variant decides.
 fn floors(
+    rt: &impl Print,
     cases: Tally,
     rows: &mut [u64],
     k: usize,
     variant: usize,
     masks: &mut [u64],
     slots: &mut [u64],
-) -> Tally
+) -> io::Result<Tally>
     requires { (1 ≤ k) × (k ≤ most_slack) }
 {
     let silent = ask_silent(k, 2 * k - 1, silent::of_variant(rows, variant));
-    let least = changes(cases, rows, ask(k, 2 * k - 1), variant, masks, slots);
-    let next = changes(least, rows, ask(k, 2 * k), variant, masks, slots);
-    changes(next, rows, silent, variant ^ OTHER, masks, slots)
+    let least = changes(rt, cases, rows, ask(k, 2 * k - 1), variant, masks, slots)?;
+    let next = changes(rt, least, rows, ask(k, 2 * k), variant, masks, slots)?;
+    changes(rt, next, rows, silent, variant ^ OTHER, masks, slots)
 }
 
 // One graph, where it has an edge to change. The variant decides the slack.
-pub fn graph(cases: Tally, rows: &mut [u64], variant: usize) -> Tally {
+pub fn graph(rt: &impl Print, cases: Tally, rows: &mut [u64], variant: usize) -> io::Result<Tally> {
     let mut masks = [0u64; MASK_WORDS];
     let mut slots = [0u64; SLOT_WORDS];
     if sets::count(rows) < 2 {
-        return cases;
+        return Ok(cases);
     }
     floors(
+        rt,
         cases,
         rows,
         variant / 8 % MOST_SLACK + 1,

@@ -12,6 +12,7 @@ use crate::{
 use judging::check::MOST_SLACK;
 use judging::{Refusal, Request};
 use search::ListFound;
+use std::io;
 
 const MOST_VERTICES: usize = 16;
 
@@ -58,6 +59,7 @@ fn agrees(rows: &[u64], request: Request, masks: &[u64], m: usize, slots: &mut [
 
 // The same with so many slots, if there are so many: a case more. A difference prints the graph.
 fn with_slots(
+    rt: &impl Print,
     cases: Tally,
     rows: &[u64],
     request: Request,
@@ -65,40 +67,42 @@ fn with_slots(
     m: usize,
     slots: &mut [u64],
     room: usize,
-) -> Tally {
+) -> io::Result<Tally> {
     if sets::count(slots) < room {
-        return tally::with(cases, false);
+        return Ok(tally::with(cases, false));
     }
     let end = words::end(slots, room);
     let right = agrees(rows, request, masks, m, &mut slots[0..end]);
     if !right {
-        sheet::print(rows, request);
+        sheet::print(rt, rows, request)?;
     }
-    tally::with(cases, right)
+    Ok(tally::with(cases, right))
 }
 
 // One request with m masks: slots just enough, more, and too few by one.
 pub fn with_request(
+    rt: &impl Print,
     cases: Tally,
     rows: &[u64],
     request: Request,
     masks: &[u64],
     m: usize,
     slots: &mut [u64],
-) -> Tally {
+) -> io::Result<Tally> {
     if MASKS < m {
-        return tally::with(cases, false);
+        return Ok(tally::with(cases, false));
     }
-    let exact = with_slots(cases, rows, request, masks, m, slots, m);
-    let longer = with_slots(exact, rows, request, masks, m, slots, m + EXTRA_SLOTS);
+    let exact = with_slots(rt, cases, rows, request, masks, m, slots, m)?;
+    let longer = with_slots(rt, exact, rows, request, masks, m, slots, m + EXTRA_SLOTS)?;
     if m == 0 {
-        return longer;
+        return Ok(longer);
     }
-    with_slots(longer, rows, request, masks, m, slots, m - 1)
+    with_slots(rt, longer, rows, request, masks, m, slots, m - 1)
 }
 
 // One slack: every floor that is allowed beside it, up to the last. The masks are those of the least.
 fn floors(
+    rt: &impl Print,
     start: Tally,
     rows: &[u64],
     k: usize,
@@ -106,7 +110,7 @@ fn floors(
     last: usize,
     masks: &mut [u64],
     slots: &mut [u64],
-) -> Tally
+) -> io::Result<Tally>
     requires { (1 ≤ k) × (k ≤ most_slack) }
 {
     let least = 2 * k - 1;
@@ -117,34 +121,35 @@ fn floors(
         q += 1;
         let request = ask_silent(k, q, silent);
         m = all_sets::keep_large(masks, m, request);
-        cases = with_request(cases, rows, request, masks, m, slots);
+        cases = with_request(rt, cases, rows, request, masks, m, slots)?;
     }
-    cases
+    Ok(cases)
 }
 
 // One graph and the mask of its silent vertices: every slack.
 pub fn slacks(
+    rt: &impl Print,
     start: Tally,
     rows: &[u64],
     silent: u64,
     last: usize,
     masks: &mut [u64],
     slots: &mut [u64],
-) -> Tally {
+) -> io::Result<Tally> {
     let mut cases = start;
     let mut k = 1;
     while k <= MOST_SLACK {
-        cases = floors(cases, rows, k, silent, last, masks, slots);
+        cases = floors(rt, cases, rows, k, silent, last, masks, slots)?;
         k += 1;
     }
-    cases
+    Ok(cases)
 }
 
 // One graph without silent vertices: every slack, and every floor.
-fn graph(cases: Tally, rows: &[u64]) -> Tally {
+fn graph(rt: &impl Print, cases: Tally, rows: &[u64]) -> io::Result<Tally> {
     let mut masks = [0u64; MASK_WORDS];
     let mut slots = [0u64; SLOT_WORDS];
-    slacks(cases, rows, 0, MOST_FLOOR, &mut masks, &mut slots)
+    slacks(rt, cases, rows, 0, MOST_FLOOR, &mut masks, &mut slots)
 }
 
 // The call that is compared.
@@ -159,34 +164,55 @@ pub enum Call {
 }
 
 // The graph of the family with a vertex for each row.
-fn built(cases: Tally, call: Call, rows: &mut [u64], family: usize, variant: usize) -> Tally {
+fn built(
+    rt: &impl Print,
+    cases: Tally,
+    call: Call,
+    rows: &mut [u64],
+    family: usize,
+    variant: usize,
+) -> io::Result<Tally> {
     graphs::build(rows, family, variant);
     match call {
-        Call::List => graph(cases, rows),
-        Call::Largest => largest_plex::graph(cases, rows),
-        Call::Looseness => looseness::graph(cases, rows),
-        Call::Change => changes::graph(cases, rows, variant),
-        Call::Core => cores::graph(cases, rows),
-        Call::Silent => silent::graph(cases, rows, variant),
+        Call::List => graph(rt, cases, rows),
+        Call::Largest => largest_plex::graph(rt, cases, rows),
+        Call::Looseness => looseness::graph(rt, cases, rows),
+        Call::Change => changes::graph(rt, cases, rows, variant),
+        Call::Core => cores::graph(rt, cases, rows),
+        Call::Silent => silent::graph(rt, cases, rows, variant),
     }
 }
 
 // The same with n rows.
-fn sized(cases: Tally, call: Call, family: usize, n: usize, variant: usize) -> Tally {
+fn sized(
+    rt: &impl Print,
+    cases: Tally,
+    call: Call,
+    family: usize,
+    n: usize,
+    variant: usize,
+) -> io::Result<Tally> {
     let mut rows = [0u64; ROW_WORDS];
     let end = words::end(&rows, n);
-    built(cases, call, &mut rows[0..end], family, variant)
+    built(rt, cases, call, &mut rows[0..end], family, variant)
 }
 
 // All variants with n vertices.
-fn variants(start: Tally, call: Call, family: usize, n: usize, most: usize) -> Tally {
+fn variants(
+    rt: &impl Print,
+    start: Tally,
+    call: Call,
+    family: usize,
+    n: usize,
+    most: usize,
+) -> io::Result<Tally> {
     let mut cases = start;
     let mut variant = 0;
     while variant < most {
-        cases = sized(cases, call, family, n, variant);
+        cases = sized(rt, cases, call, family, n, variant)?;
         variant += 1;
     }
-    cases
+    Ok(cases)
 }
 
 // Where every set is asked for, and where the graphs are changed or have silent vertices, they are smaller.
@@ -202,13 +228,19 @@ fn most_vertices(call: Call) -> usize {
 }
 
 // The graphs of a family with 1 to 16 vertices, or fewer for the other calls, in so many variants.
-pub fn group(start: Tally, call: Call, family: usize, most: usize) -> Tally {
+pub fn group(
+    rt: &impl Print,
+    start: Tally,
+    call: Call,
+    family: usize,
+    most: usize,
+) -> io::Result<Tally> {
     let vertices = most_vertices(call);
     let mut cases = start;
     let mut n = 0;
     while n < vertices {
         n += 1;
-        cases = variants(cases, call, family, n, most);
+        cases = variants(rt, cases, call, family, n, most)?;
     }
-    cases
+    Ok(cases)
 }

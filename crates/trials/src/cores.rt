@@ -10,6 +10,7 @@ use crate::{graphs, sheet, tally, words};
 use bounds::CoreFound;
 use judging::check::MOST_SLACK;
 use sets::Set;
+use std::io;
 
 // Each pass but the last takes a vertex.
 const MOST_PASSES: usize = sets::WIDTH + 1;
@@ -136,36 +137,36 @@ fn agrees(rows: &[u64], k: usize, q: usize) -> bool
 }
 
 // A case more. A difference prints the graph.
-fn with_floor(cases: Tally, rows: &[u64], k: usize, q: usize) -> Tally
+fn with_floor(rt: &impl Print, cases: Tally, rows: &[u64], k: usize, q: usize) -> io::Result<Tally>
     requires { k ≤ q }
 {
     let right = agrees(rows, k, q);
     if !right {
-        sheet::print(rows, ask(k, q));
+        sheet::print(rt, rows, ask(k, q))?;
     }
-    tally::with(cases, right)
+    Ok(tally::with(cases, right))
 }
 
 // One slack: every floor that is allowed beside it.
-fn slack(start: Tally, rows: &[u64], k: usize) -> Tally
+fn slack(rt: &impl Print, start: Tally, rows: &[u64], k: usize) -> io::Result<Tally>
     requires { (1 ≤ k) × (k ≤ most_slack) }
 {
     let mut cases = start;
     let mut q = 2 * k - 1;
     while q <= MOST_FLOOR {
-        cases = with_floor(cases, rows, k, q);
+        cases = with_floor(rt, cases, rows, k, q)?;
         q += 1;
     }
-    cases
+    Ok(cases)
 }
 
 // One graph: every slack.
-pub fn graph(start: Tally, rows: &[u64]) -> Tally {
+pub fn graph(rt: &impl Print, start: Tally, rows: &[u64]) -> io::Result<Tally> {
     let mut cases = start;
     let mut k = 1;
     while k <= MOST_SLACK {
-        cases = slack(cases, rows, k);
+        cases = slack(rt, cases, rows, k)?;
         k += 1;
     }
-    cases
+    Ok(cases)
 }

@@ -8,6 +8,7 @@ use crate::tally::Tally;
 use crate::{change_edges, cores, graphs, largest_plex, looseness, silent, tally, words};
 use bounds::{BoundFound, ReachFound};
 use judging::Judged;
+use std::io;
 
 // The last of 64 vertices, and the others.
 const LAST: u64 = 1 << 63;
@@ -29,54 +30,54 @@ fn singletons(masks: &mut [u64]) {
 }
 
 // As many vertices as masks, and no edge: at slack 1 and floor 1 a list has each of them.
-fn lists_each(cases: Tally, masks: &mut [u64]) -> Tally {
+fn lists_each(rt: &impl Print, cases: Tally, masks: &mut [u64]) -> io::Result<Tally> {
     singletons(masks);
-    silent::sized(cases, EMPTY, masks.len(), ask(1, 1), masks)
+    silent::sized(rt, cases, EMPTY, masks.len(), ask(1, 1), masks)
 }
 
-fn singleton_lists(start: Tally) -> Tally {
+fn singleton_lists(rt: &impl Print, start: Tally) -> io::Result<Tally> {
     let mut each_of_2 = [0u64; 2];
     let mut each_of_63 = [0u64; 63];
     let mut each_of_64 = [0u64; 64];
-    let mut cases = lists_each(start, &mut each_of_2);
-    cases = lists_each(cases, &mut each_of_63);
-    lists_each(cases, &mut each_of_64)
+    let mut cases = lists_each(rt, start, &mut each_of_2)?;
+    cases = lists_each(rt, cases, &mut each_of_63)?;
+    lists_each(rt, cases, &mut each_of_64)
 }
 
 // 64 vertices and no edge. Only those that are not silent are listed; and at a higher floor none, since a k-plex has at most k members.
-fn edgeless_lists(start: Tally) -> Tally {
+fn edgeless_lists(rt: &impl Print, start: Tally) -> io::Result<Tally> {
     let none = [0u64; 0];
     let ends = [1u64, LAST];
     let others = ask_silent(1, 1, OTHERS ^ 1);
-    let mut cases = silent::sized(start, EMPTY, 64, others, &ends);
-    cases = silent::sized(cases, EMPTY, 64, ask_silent(1, 1, u64::MAX), &none);
-    cases = silent::sized(cases, EMPTY, 64, ask(1, 2), &none);
-    cases = silent::sized(cases, EMPTY, 64, ask(2, 3), &none);
-    cases = silent::sized(cases, EMPTY, 64, ask_silent(2, 3, 1), &none);
-    cases = silent::sized(cases, EMPTY, 64, ask(3, 5), &none);
-    cases = silent::sized(cases, EMPTY, 64, ask(4, 7), &none);
-    cases = silent::sized(cases, EMPTY, 64, ask(5, 9), &none);
-    cases = silent::sized(cases, EMPTY, 64, ask_silent(5, 9, LAST), &none);
-    silent::sized(cases, EMPTY, 64, ask(5, 64), &none)
+    let mut cases = silent::sized(rt, start, EMPTY, 64, others, &ends)?;
+    cases = silent::sized(rt, cases, EMPTY, 64, ask_silent(1, 1, u64::MAX), &none)?;
+    cases = silent::sized(rt, cases, EMPTY, 64, ask(1, 2), &none)?;
+    cases = silent::sized(rt, cases, EMPTY, 64, ask(2, 3), &none)?;
+    cases = silent::sized(rt, cases, EMPTY, 64, ask_silent(2, 3, 1), &none)?;
+    cases = silent::sized(rt, cases, EMPTY, 64, ask(3, 5), &none)?;
+    cases = silent::sized(rt, cases, EMPTY, 64, ask(4, 7), &none)?;
+    cases = silent::sized(rt, cases, EMPTY, 64, ask(5, 9), &none)?;
+    cases = silent::sized(rt, cases, EMPTY, 64, ask_silent(5, 9, LAST), &none)?;
+    silent::sized(rt, cases, EMPTY, 64, ask(5, 64), &none)
 }
 
 // One vertex is isolated, and the others are all adjacent.
-fn lists(start: Tally) -> Tally {
+fn lists(rt: &impl Print, start: Tally) -> io::Result<Tally> {
     let none = [0u64; 0];
     let last = [OTHERS, LAST];
     let first = [1, u64::MAX ^ 1];
     let family = LAST_ALONE;
-    let mut cases = silent::sized(start, family, 64, ask(1, 1), &last);
-    cases = silent::sized(cases, family, 64, ask(1, 2), &last[0..1]);
-    cases = silent::sized(cases, family, 64, ask(1, 63), &last[0..1]);
-    cases = silent::sized(cases, family, 64, ask(1, 64), &none);
-    cases = silent::sized(cases, family, 64, ask(2, 3), &last[0..1]);
-    cases = silent::sized(cases, family, 64, ask(5, 9), &last[0..1]);
-    cases = silent::sized(cases, family, 64, ask_silent(1, 1, LAST), &last[0..1]);
-    cases = silent::sized(cases, family, 64, ask_silent(1, 1, OTHERS), &last[1..2]);
-    cases = silent::sized(cases, family, 64, ask_silent(1, 1, u64::MAX), &none);
-    cases = silent::sized(cases, FIRST_ALONE, 64, ask(1, 1), &first);
-    silent::sized(cases, FIRST_ALONE, 64, ask(5, 9), &first[1..2])
+    let mut cases = silent::sized(rt, start, family, 64, ask(1, 1), &last)?;
+    cases = silent::sized(rt, cases, family, 64, ask(1, 2), &last[0..1])?;
+    cases = silent::sized(rt, cases, family, 64, ask(1, 63), &last[0..1])?;
+    cases = silent::sized(rt, cases, family, 64, ask(1, 64), &none)?;
+    cases = silent::sized(rt, cases, family, 64, ask(2, 3), &last[0..1])?;
+    cases = silent::sized(rt, cases, family, 64, ask(5, 9), &last[0..1])?;
+    cases = silent::sized(rt, cases, family, 64, ask_silent(1, 1, LAST), &last[0..1])?;
+    cases = silent::sized(rt, cases, family, 64, ask_silent(1, 1, OTHERS), &last[1..2])?;
+    cases = silent::sized(rt, cases, family, 64, ask_silent(1, 1, u64::MAX), &none)?;
+    cases = silent::sized(rt, cases, FIRST_ALONE, 64, ask(1, 1), &first)?;
+    silent::sized(rt, cases, FIRST_ALONE, 64, ask(5, 9), &first[1..2])
 }
 
 fn judge_gives(found: Judged, maximal: bool) -> bool {
@@ -212,7 +213,7 @@ fn largest(start: Tally) -> Tally {
 }
 
 // A change takes the last edge of a vertex, or of two, or gives it the first.
-fn changed(start: Tally) -> Tally {
+fn changed(rt: &impl Print, start: Tally) -> io::Result<Tally> {
     let pair = [3u64];
     let apart = [1u64, 2];
     let star = [3u64, 5, 9];
@@ -222,6 +223,7 @@ fn changed(start: Tally) -> Tally {
     let family = LAST_ALONE;
     let quiet = ask_silent(1, 1, LAST);
     let mut cases = change_edges::sized(
+        rt,
         start,
         graphs::COMPLETE,
         2,
@@ -229,8 +231,9 @@ fn changed(start: Tally) -> Tally {
         parted(0, 1),
         &apart,
         &pair,
-    );
+    )?;
     cases = change_edges::sized(
+        rt,
         cases,
         graphs::STAR,
         4,
@@ -238,13 +241,16 @@ fn changed(start: Tally) -> Tally {
         parted(3, 0),
         &without,
         &star,
-    );
+    )?;
     let to = joined(0, 63);
-    cases = change_edges::sized(cases, family, 64, ask(1, 1), to, &with_last, &last);
-    change_edges::sized(cases, family, 64, quiet, to, &with_last, &last[0..1])
+    cases = change_edges::sized(rt, cases, family, 64, ask(1, 1), to, &with_last, &last)?;
+    change_edges::sized(rt, cases, family, 64, quiet, to, &with_last, &last[0..1])
 }
 
-pub fn found() -> Tally {
-    let listed = lists(edgeless_lists(singleton_lists(tally::none())));
-    changed(largest(peeled(loose(reached(judged(listed))))))
+pub fn found(rt: &impl Print) -> io::Result<Tally> {
+    let mut cases = singleton_lists(rt, tally::none())?;
+    cases = edgeless_lists(rt, cases)?;
+    cases = lists(rt, cases)?;
+    cases = largest(peeled(loose(reached(judged(cases)))));
+    changed(rt, cases)
 }

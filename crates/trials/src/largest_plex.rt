@@ -8,6 +8,7 @@ use judging::Refusal;
 use judging::check::MOST_SLACK;
 use largest::LargestFound;
 use sets::Set;
+use std::io;
 
 // A floor that is allowed beside each slack, for the sheet of a graph.
 const FLOOR: usize = 64;
@@ -173,33 +174,39 @@ fn agrees(rows: &[u64], k: usize, forced: Set) -> bool {
 }
 
 // One forced set: a case more. A difference prints the graph.
-fn with_forced(cases: Tally, rows: &[u64], k: usize, forced: Set) -> Tally {
+fn with_forced(
+    rt: &impl Print,
+    cases: Tally,
+    rows: &[u64],
+    k: usize,
+    forced: Set,
+) -> io::Result<Tally> {
     let right = agrees(rows, k, forced);
     if !right {
-        sheet::print(rows, ask(k, FLOOR));
+        sheet::print(rt, rows, ask(k, FLOOR))?;
     }
-    tally::with(cases, right)
+    Ok(tally::with(cases, right))
 }
 
 // One slack: every set, forced.
-fn slack(start: Tally, rows: &[u64], k: usize) -> Tally {
+fn slack(rt: &impl Print, start: Tally, rows: &[u64], k: usize) -> io::Result<Tally> {
     let most = all_sets::count_masks(rows);
     let mut cases = start;
     let mut mask = 0u64;
     while mask < most {
-        cases = with_forced(cases, rows, k, sets::of_word(mask));
+        cases = with_forced(rt, cases, rows, k, sets::of_word(mask))?;
         mask += 1;
     }
-    cases
+    Ok(cases)
 }
 
 // One graph: every slack.
-pub fn graph(start: Tally, rows: &[u64]) -> Tally {
+pub fn graph(rt: &impl Print, start: Tally, rows: &[u64]) -> io::Result<Tally> {
     let mut cases = start;
     let mut k = 0;
     while k < MOST_SLACK {
         k += 1;
-        cases = slack(cases, rows, k);
+        cases = slack(rt, cases, rows, k)?;
     }
-    cases
+    Ok(cases)
 }

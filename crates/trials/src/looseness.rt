@@ -6,6 +6,7 @@ use crate::words::GARBAGE;
 use crate::{all_sets, graphs, refusals, sheet, tally, words};
 use judging::LoosenessFound;
 use sets::Set;
+use std::io;
 
 // Is the set so loose, number 0; or else is it this refusal with this value?
 fn gives(found: LoosenessFound, number: usize, value: usize) -> bool {
@@ -101,22 +102,22 @@ pub fn refused() -> Tally {
 }
 
 // One set: a case more. A difference prints the graph.
-fn with_set(cases: Tally, rows: &[u64], s: Set) -> Tally {
+fn with_set(rt: &impl Print, cases: Tally, rows: &[u64], s: Set) -> io::Result<Tally> {
     let right = gives(judging::looseness(rows, s), 0, all_sets::looseness(rows, s));
     if !right {
-        sheet::print(rows, ask(1, 1));
+        sheet::print(rt, rows, ask(1, 1))?;
     }
-    tally::with(cases, right)
+    Ok(tally::with(cases, right))
 }
 
 // One graph: every set.
-pub fn graph(start: Tally, rows: &[u64]) -> Tally {
+pub fn graph(rt: &impl Print, start: Tally, rows: &[u64]) -> io::Result<Tally> {
     let most = all_sets::count_masks(rows);
     let mut cases = start;
     let mut mask = 0u64;
     while mask < most {
-        cases = with_set(cases, rows, sets::of_word(mask));
+        cases = with_set(rt, cases, rows, sets::of_word(mask))?;
         mask += 1;
     }
-    cases
+    Ok(cases)
 }

@@ -6,8 +6,8 @@ use crate::tally::Tally;
 use crate::words::GARBAGE;
 use crate::{graphs, isolated_sheets, refusals, requests, tally, words};
 use judging::Request;
-use libc::STDOUT_FILENO;
 use sheets::{SheetRead, SheetWritten};
+use std::io;
 
 // The longest sheet.
 const MOST_TEXT: usize = 1112;
@@ -32,10 +32,11 @@ const OLD: u8 = 63;
 // No byte of a text of five vertices is there.
 const NOWHERE: usize = 120;
 
-fn print_front(text: &[u8], n: usize) {
+fn print_front(rt: &impl Print, text: &[u8], n: usize) -> io::Result<()> {
     if n <= text.len() {
-        io::write_all(STDOUT_FILENO, &text[0..n]);
+        rt.write_all(&text[0..n])?;
     }
+    Ok(())
 }
 
 // Line 1 says n, k and q, and line 2 which vertices are silent, whatever they are.
@@ -65,10 +66,10 @@ pub fn lay_out(rows: &[u64], request: Request, text: &mut [u8]) -> usize {
 }
 
 // Prints the graph and the request as the text of a sheet. It may be one that reading declines with 14: a graph with an isolated vertex has no sheet.
-pub fn print(rows: &[u64], request: Request) {
+pub fn print(rt: &impl Print, rows: &[u64], request: Request) -> io::Result<()> {
     let mut text = [0u8; MOST_TEXT];
     let length = lay_out(rows, request, &mut text);
-    print_front(&text, length);
+    print_front(rt, &text, length)
 }
 
 // The byte b at the position `at`, where there is one.

@@ -6,6 +6,7 @@ use crate::tally::Tally;
 use crate::words::GARBAGE;
 use crate::{all_sets, compare, graphs, list_edges, tally, words};
 use judging::Request;
+use std::io;
 
 // More slots than an edge case needs.
 const FEW_WORDS: usize = 72 * sets::WORDS;
@@ -20,113 +21,145 @@ pub const ODD: u64 = 12297829382473034410;
 const SILENT_SETS: u64 = 32;
 
 // The graph of the family with a vertex for each row: is its list the sets of these masks?
-fn built(cases: Tally, rows: &mut [u64], family: usize, request: Request, masks: &[u64]) -> Tally {
+fn built(
+    rt: &impl Print,
+    cases: Tally,
+    rows: &mut [u64],
+    family: usize,
+    request: Request,
+    masks: &[u64],
+) -> io::Result<Tally> {
     let mut list = [0u64; FEW_WORDS];
     let mut slots = [0u64; FEW_WORDS];
     graphs::build(rows, family, 0);
     words::of_masks(masks, &mut list);
-    compare::with_request(cases, rows, request, &list, masks.len(), &mut slots)
+    compare::with_request(rt, cases, rows, request, &list, masks.len(), &mut slots)
 }
 
 // The same with n rows.
-pub fn sized(cases: Tally, family: usize, n: usize, request: Request, masks: &[u64]) -> Tally {
+pub fn sized(
+    rt: &impl Print,
+    cases: Tally,
+    family: usize,
+    n: usize,
+    request: Request,
+    masks: &[u64],
+) -> io::Result<Tally> {
     let mut rows = [0u64; sets::TABLE];
     let end = words::end(&rows, n);
-    built(cases, &mut rows[0..end], family, request, masks)
+    built(rt, cases, &mut rows[0..end], family, request, masks)
 }
 
 // Five vertices in a ring: at slack 2 three side by side.
-fn ring(start: Tally) -> Tally {
+fn ring(rt: &impl Print, start: Tally) -> io::Result<Tally> {
     let none = [0u64; 0];
     let without_0 = [14u64, 28];
     let without_4 = [7u64, 14];
     let all = [31u64];
     let ring = graphs::RING;
-    let mut cases = sized(start, ring, 5, ask_silent(2, 3, 1), &without_0);
-    cases = sized(cases, ring, 5, ask_silent(2, 3, 16), &without_4);
-    cases = sized(cases, ring, 5, ask_silent(2, 3, 5), &none);
-    cases = sized(cases, ring, 5, ask_silent(2, 3, 31), &none);
-    cases = sized(cases, ring, 5, ask_silent(3, 5, 0), &all);
-    sized(cases, ring, 5, ask_silent(3, 5, 8), &none)
+    let mut cases = sized(rt, start, ring, 5, ask_silent(2, 3, 1), &without_0)?;
+    cases = sized(rt, cases, ring, 5, ask_silent(2, 3, 16), &without_4)?;
+    cases = sized(rt, cases, ring, 5, ask_silent(2, 3, 5), &none)?;
+    cases = sized(rt, cases, ring, 5, ask_silent(2, 3, 31), &none)?;
+    cases = sized(rt, cases, ring, 5, ask_silent(3, 5, 0), &all)?;
+    sized(rt, cases, ring, 5, ask_silent(3, 5, 8), &none)
 }
 
 // At slack 1 the five sides: of some, one end is silent or both are.
-fn sides(start: Tally) -> Tally {
+fn sides(rt: &impl Print, start: Tally) -> io::Result<Tally> {
     let none = [0u64; 0];
     let all = [3u64, 6, 12, 17, 24];
     let ring = graphs::RING;
-    let mut cases = sized(start, ring, 5, ask_silent(1, 1, 5), &all);
-    cases = sized(cases, ring, 5, ask_silent(1, 1, 7), &all[2..5]);
-    cases = sized(cases, ring, 5, ask_silent(1, 2, 5), &all[4..5]);
-    cases = sized(cases, ring, 5, ask_silent(1, 2, 21), &none);
-    sized(cases, ring, 5, ask_silent(1, 1, 31), &none)
+    let mut cases = sized(rt, start, ring, 5, ask_silent(1, 1, 5), &all)?;
+    cases = sized(rt, cases, ring, 5, ask_silent(1, 1, 7), &all[2..5])?;
+    cases = sized(rt, cases, ring, 5, ask_silent(1, 2, 5), &all[4..5])?;
+    cases = sized(rt, cases, ring, 5, ask_silent(1, 2, 21), &none)?;
+    sized(rt, cases, ring, 5, ask_silent(1, 1, 31), &none)
 }
 
 // Four in a ring, which are one 2-plex, and graphs of one vertex.
-fn small(start: Tally) -> Tally {
+fn small(rt: &impl Print, start: Tally) -> io::Result<Tally> {
     let none = [0u64; 0];
     let all = [15u64];
     let one = [1u64];
     let ring = graphs::RING;
-    let mut cases = sized(start, ring, 4, ask_silent(2, 3, 1), &all);
-    cases = sized(cases, ring, 4, ask_silent(2, 3, 8), &all);
-    cases = sized(cases, ring, 4, ask_silent(2, 3, 5), &none);
-    cases = sized(cases, ring, 4, ask_silent(2, 4, 1), &none);
-    cases = sized(cases, EMPTY, 1, ask_silent(1, 1, 0), &one);
-    sized(cases, EMPTY, 1, ask_silent(1, 1, 1), &none)
+    let mut cases = sized(rt, start, ring, 4, ask_silent(2, 3, 1), &all)?;
+    cases = sized(rt, cases, ring, 4, ask_silent(2, 3, 8), &all)?;
+    cases = sized(rt, cases, ring, 4, ask_silent(2, 3, 5), &none)?;
+    cases = sized(rt, cases, ring, 4, ask_silent(2, 4, 1), &none)?;
+    cases = sized(rt, cases, EMPTY, 1, ask_silent(1, 1, 0), &one)?;
+    sized(rt, cases, EMPTY, 1, ask_silent(1, 1, 1), &none)
 }
 
 // 64 vertices all adjacent, of which 63, 32, all, 55 and 56 are silent, at a floor that the others reach or are one short of.
-fn complete(start: Tally) -> Tally {
+fn complete(rt: &impl Print, start: Tally) -> io::Result<Tally> {
     let none = [0u64; 0];
     let all = [u64::MAX];
     let family = graphs::COMPLETE;
-    let mut cases = sized(start, family, 64, ask_silent(1, 1, u64::MAX ^ 1), &all);
-    cases = sized(cases, family, 64, ask_silent(1, 1, u64::MAX >> 1), &all);
-    cases = sized(cases, family, 64, ask_silent(1, 2, u64::MAX >> 1), &none);
-    cases = sized(cases, family, 64, ask_silent(1, 32, LOWER_HALF), &all);
-    cases = sized(cases, family, 64, ask_silent(1, 33, LOWER_HALF), &none);
-    cases = sized(cases, family, 64, ask_silent(5, 32, ODD), &all);
-    cases = sized(cases, family, 64, ask_silent(5, 33, ODD), &none);
-    cases = sized(cases, family, 64, ask_silent(5, 9, u64::MAX >> 9), &all);
-    cases = sized(cases, family, 64, ask_silent(5, 9, u64::MAX >> 8), &none);
-    cases = sized(cases, family, 64, ask_silent(1, 63, 1), &all);
-    cases = sized(cases, family, 64, ask_silent(1, 64, 1), &none);
-    cases = sized(cases, family, 64, ask_silent(1, 1, u64::MAX), &none);
-    cases = sized(cases, family, 64, ask_silent(1, 64, u64::MAX), &none);
-    sized(cases, family, 64, ask_silent(5, 9, u64::MAX), &none)
+    let mut cases = sized(rt, start, family, 64, ask_silent(1, 1, u64::MAX ^ 1), &all)?;
+    cases = sized(rt, cases, family, 64, ask_silent(1, 1, u64::MAX >> 1), &all)?;
+    cases = sized(
+        rt,
+        cases,
+        family,
+        64,
+        ask_silent(1, 2, u64::MAX >> 1),
+        &none,
+    )?;
+    cases = sized(rt, cases, family, 64, ask_silent(1, 32, LOWER_HALF), &all)?;
+    cases = sized(rt, cases, family, 64, ask_silent(1, 33, LOWER_HALF), &none)?;
+    cases = sized(rt, cases, family, 64, ask_silent(5, 32, ODD), &all)?;
+    cases = sized(rt, cases, family, 64, ask_silent(5, 33, ODD), &none)?;
+    cases = sized(rt, cases, family, 64, ask_silent(5, 9, u64::MAX >> 9), &all)?;
+    cases = sized(
+        rt,
+        cases,
+        family,
+        64,
+        ask_silent(5, 9, u64::MAX >> 8),
+        &none,
+    )?;
+    cases = sized(rt, cases, family, 64, ask_silent(1, 63, 1), &all)?;
+    cases = sized(rt, cases, family, 64, ask_silent(1, 64, 1), &none)?;
+    cases = sized(rt, cases, family, 64, ask_silent(1, 1, u64::MAX), &none)?;
+    cases = sized(rt, cases, family, 64, ask_silent(1, 64, u64::MAX), &none)?;
+    sized(rt, cases, family, 64, ask_silent(5, 9, u64::MAX), &none)
 }
 
 // 64 vertices of which one, two or three are not silent: without an edge, in a ring, in a star.
-fn sparse(start: Tally) -> Tally {
+fn sparse(rt: &impl Print, start: Tally) -> io::Result<Tally> {
     let none = [0u64; 0];
     let last = [1u64 << 63];
     let with_last = [1 | (1u64 << 63), 3u64 << 62];
     let centre_and_last = [1 | (3u64 << 62)];
-    let mut cases = sized(start, EMPTY, 64, ask_silent(1, 1, u64::MAX >> 1), &last);
-    cases = sized(cases, EMPTY, 64, ask_silent(1, 2, u64::MAX >> 2), &none);
+    let mut cases = sized(rt, start, EMPTY, 64, ask_silent(1, 1, u64::MAX >> 1), &last)?;
+    cases = sized(rt, cases, EMPTY, 64, ask_silent(1, 2, u64::MAX >> 2), &none)?;
     cases = sized(
+        rt,
         cases,
         graphs::RING,
         64,
         ask_silent(1, 1, u64::MAX >> 1),
         &with_last,
-    );
+    )?;
     cases = sized(
+        rt,
         cases,
         graphs::RING,
         64,
         ask_silent(1, 2, u64::MAX >> 2),
         &with_last[1..2],
-    );
+    )?;
     cases = sized(
+        rt,
         cases,
         graphs::STAR,
         64,
         ask_silent(2, 3, (u64::MAX >> 2) ^ 1),
         &centre_and_last,
-    );
+    )?;
     sized(
+        rt,
         cases,
         graphs::STAR,
         64,
@@ -161,8 +194,13 @@ fn beyond(start: Tally) -> Tally {
     tally::with(cases, reaches(63, u64::MAX))
 }
 
-pub fn found() -> Tally {
-    beyond(sparse(complete(small(sides(ring(tally::none()))))))
+pub fn found(rt: &impl Print) -> io::Result<Tally> {
+    let mut cases = ring(rt, tally::none())?;
+    cases = sides(rt, cases)?;
+    cases = small(rt, cases)?;
+    cases = complete(rt, cases)?;
+    cases = sparse(rt, cases)?;
+    Ok(beyond(cases))
 }
 
 // Where the numbers start that decide on silent vertices: others than those of the graph's edges.
@@ -215,12 +253,13 @@ fn last_floor(n: usize) -> usize {
 
 // One graph with some silent sets: every slack, and the floors up to one above n.
 fn silent_sets(
+    rt: &impl Print,
     start: Tally,
     rows: &[u64],
     variant: usize,
     masks: &mut [u64],
     slots: &mut [u64],
-) -> Tally {
+) -> io::Result<Tally> {
     let n = sets::count(rows);
     let last = last_floor(n);
     let most = all_sets::count_masks(rows);
@@ -229,16 +268,16 @@ fn silent_sets(
     let mut cases = start;
     let mut i = 0;
     while i < tried {
-        cases = compare::slacks(cases, rows, chosen(most, i, x), last, masks, slots);
+        cases = compare::slacks(rt, cases, rows, chosen(most, i, x), last, masks, slots)?;
         x = graphs::next(x);
         i += 1;
     }
-    cases
+    Ok(cases)
 }
 
 // The same with memory for the lists.
-pub fn graph(cases: Tally, rows: &[u64], variant: usize) -> Tally {
+pub fn graph(rt: &impl Print, cases: Tally, rows: &[u64], variant: usize) -> io::Result<Tally> {
     let mut masks = [0u64; MASK_WORDS];
     let mut slots = [0u64; SLOT_WORDS];
-    silent_sets(cases, rows, variant, &mut masks, &mut slots)
+    silent_sets(rt, cases, rows, variant, &mut masks, &mut slots)
 }

@@ -1,5 +1,5 @@
 // How many cases were run, and how many differ from what they should be.
-use libc::STDOUT_FILENO;
+use std::io;
 
 #[derive(Clone, Copy)]
 pub struct Tally {
@@ -25,11 +25,9 @@ pub fn with(tally: Tally, right: bool) -> Tally {
 }
 
 // Prints a group's line.
-pub fn print(name: &[u8], tally: Tally) {
-    io::write_all(STDOUT_FILENO, name);
-    io::write_all(STDOUT_FILENO, b": ");
-    io::print_decimal(STDOUT_FILENO, tally.cases);
-    io::write_all(STDOUT_FILENO, b" cases, ");
-    io::print_decimal(STDOUT_FILENO, tally.different);
-    io::write_all(STDOUT_FILENO, b" different\n");
+pub fn print(rt: &impl Print, name: &str, tally: Tally) -> io::Result<()> {
+    println!(rt;
+        "{name}: {} cases, {} different",
+        tally.cases, tally.different
+    )
 }
