@@ -217,14 +217,14 @@ module _ (g : List ℕ) (x y : ℕ) (p : x < length g) where
   added_low : (n a : ℕ) → y < n → row g a < 2 ^ n → row (added g x y) a < 2 ^ n
   added_low n a q l = added-row a (λ s. s < 2 ^ n) l (with_below n (row g a) y l q)
 
-  added-length : length (added g x y) ≡ length g
+  added_length : length (added g x y) ≡ length g
   unfolding added
-  added-length = length-set g x (with (row g x) y)
+  added_length = length-set g x (with (row g x) y)
 
 pub rows_linked : (n : ℕ) (e : Edge) (es : List Edge) → e.one < n → e.two < n → linked (rows_of n es) e.one e.two ≡ rows_of n (e ∷ es)
 unfolding joins linked
 rows_linked n e es p q =
-    rows_unique n (e ∷ es) (linked g x y) (added-length h y x q' ∙ added-length g x y p' ∙ rows_length n es)
+    rows_unique n (e ∷ es) (linked g x y) (added_length h y x q' ∙ added_length g x y p' ∙ rows_length n es)
     (λ a k. added_low h y x q' n a p (added_low g x y p' n a q (omega (arith, row_of n a es k, set_of_below (joins es a) n))))
     (λ a b k l i. said a b k (added_in h y x q' a b i))
     (λ a b k l t. shown a b k l (or_cases (is_edge e a b) (joins es a b) t))
@@ -245,7 +245,7 @@ rows_linked n e es p q =
     h = added g x y
 
     q' : y < length h
-    q' = omega (arith, added-length g x y p', rows_length n es)
+    q' = omega (arith, added_length g x y p', rows_length n es)
 
     said : (a b : ℕ) → a < n → ((a ≡ y) × (b ≡ x)) ⊎ In b (row h a) → T (is_edge e a b || joins es a b)
     said a b k (inl r) = or_left (is_edge e a b) (joins es a b) (edge_two e a b (sym r.1) (sym r.0))

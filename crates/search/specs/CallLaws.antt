@@ -102,8 +102,8 @@ module _ {g : List ℕ} {ask : Request} (a : Accepted g ask) {before after : Lis
   counted : m ≡ length (listing g ask)
   counted = (listing-placed g ask before after m few x).0
 
-  pub added-length : length after ≡ length before
-  added-length = (adds_all (2 ^ length g) (listed g ask) before after m x).long
+  pub added_length : length after ≡ length before
+  added_length = (adds_all (2 ^ length g) (listed g ask) before after m x).long
 
   -- put in order it is the list
   pub collects_fits : {part exit : List ℕ} → m ≤ length before → Sorts (take m after) part → exit ≡ part ++ drop m after → Collects g ask before exit m

@@ -112,8 +112,8 @@ module _ (g : List ℕ) (ask : Request) (e : first_cause (request_check g ask) p
     pub linked_writes : (bytes : ℕ) → sheet_length (length g) ≤ bytes → writing g ask bytes ≡ answered (sheet_length (length g)) tt
     linked_writes bytes l = accepted_writes g ask linked_passed bytes refl l
 
-    pub linked-reads_back : (room : ℕ) → length g ≤ room → reading (sheet_text g ask) room ≡ answered 0 (sheet g ask)
-    linked-reads_back room l = passed_reads g ask linked_passed room l
+    pub linked_reads_back : (room : ℕ) → length g ≤ room → reading (sheet_text g ask) room ≡ answered 0 (sheet g ask)
+    linked_reads_back room l = passed_reads g ask linked_passed room l
 
   module _ (a : ℕ) (l : a < length g) (z : row g a ≡ 0) (lower : (b : ℕ) → b < a → row g b ≡ 0 → ⊥) where
     told : {A : Type 0} (c : Cause) (r : Reply A) → first_cause (isolated_cause g ∷ c ∷ []) r ≡ refused 14 a

@@ -5,13 +5,13 @@ use mathlib.Core.Path.{sym, ◌∙◌}
 use lib.Seq.{length_front, length-take-le}
 use Rattle.sets.specs.Words.{masks}
 use Rattle.sets.specs.Words.Masks.{offset_fits, lent_before, back_before}
-use Rattle.search.specs.CallLaws.{added-length, collects_fits, collects_short}
+use Rattle.search.specs.CallLaws.{added_length, collects_fits, collects_short}
 use Rattle.search.proofs.collect.Goals as goal
 
 -- ---- the needs
 pub returns-then-room-m : goal.returns-then-room-m
 returns-then-room-m c =
-    collects_short c.requires.0 c.enumerate-m.ensures (omega (arith, c.if-room-m.true, c.count-room.ensures, added-length c.requires.0 c.enumerate-m.ensures))
+    collects_short c.requires.0 c.enumerate-m.ensures (omega (arith, c.if-room-m.true, c.count-room.ensures, added_length c.requires.0 c.enumerate-m.ensures))
 
 pub offset-end-requires : goal.offset-end-requires
 offset-end-requires c =
@@ -40,6 +40,6 @@ returns c =
     let part : List ℕ = c.sort.new.part in
     let end : ℕ = c.offset-end.result in
     let long : length part ≡ end = c.sort.auto.part ∙ length-take-le end c.enumerate-m.new.slots end_fits in
-    collects_fits c.requires.0 c.enumerate-m.ensures (omega (arith, room_fits, added-length c.requires.0 c.enumerate-m.ensures))
+    collects_fits c.requires.0 c.enumerate-m.ensures (omega (arith, room_fits, added_length c.requires.0 c.enumerate-m.ensures))
     (rw (lent_before c.enumerate-m.new.slots c.enumerate-m.result end c.offset-end.ensures room_fits) at c.sort.ensures)
     (back_before c.enumerate-m.new.slots c.enumerate-m.result end c.offset-end.ensures part long)
