@@ -1,6 +1,6 @@
 -- Laws of a set at one vertex u, for `omega`: with the digits of each set in hand (bit-bit_and, bit-bit_or, bit-minus, and those below) a statement about
 -- sets is one about numbers of at most 1. A vertex v enters as the set `2 ^ v`, whose digit at u is 1 exactly where u is v: no case for "the same
--- vertex or another" is needed. The digits of `full n` are in WordLaws (bit-full, bit-full_out, sub_full); of `set_of n p`, in MemberLaws (bit-set_of).
+-- vertex or another" is needed. The digits of `full n` are in WordLaws (bit-full, bit-full_out, sub-full); of `set_of n p`, in MemberLaws (bit-set_of).
 use Rattle.std.specs.Prelude.{ℕ, ◌+◌, ◌-◌, ◌^◌, ◌≤◌, max, ◌≡◌}
 use Rattle.std.proofs.Common.{arith, ap, pow_pos}
 use Rattle.std.proofs.Math.Decide.{ℕ_discrete}
