@@ -16,7 +16,8 @@ use Rattle.judging.specs.Calls.{refusal, passed, checked_reply, slack_check, set
 use Rattle.judging.specs.PlexLaws.{hereditary}
 use Rattle.judging.specs.LoosenessLaws.{loose_plex}
 use Rattle.judging.specs.RefusalLaws.{first_holds, first_skips, passed_head, passed_tail, passed_front, passed_back}
-use Rattle.judging.specs.RefusalLaws.{slack_accepted, set_checked, set_below, vertex_below}
+use Rattle.judging.specs.RefusalLaws.{slack_accepted, set_below, vertex_below}
+use Rattle.judging.proofs.PassedLaws.{set_checked}
 use Rattle.judging.specs.CallLaws.{set-outside, set_inside, front_refused, front_accepted}
 use Rattle.judging.specs.declared.Refusal.{Refusal}
 use Rattle.judging.specs.declared.Checked.{Checked}

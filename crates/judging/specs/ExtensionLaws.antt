@@ -10,14 +10,14 @@ use Rattle.sets.specs.Graph.{row}
 use Rattle.sets.specs.RangeLaws.{and_left, and_right, both, or_cases, or_left, or_right, is_true, is_false}
 use Rattle.sets.specs.BitLaws.{bit_le}
 use Rattle.sets.specs.PointLaws.{bit_with, in_single, by_bit}
-use Rattle.sets.specs.SubsetLaws.{sub_refl, with_same, sub_with, in_of_sub, in_below, not_has, not_in}
+use Rattle.sets.specs.SubsetLaws.{with_same, sub_with, in_of_sub, in_below, not_has, not_in}
 use Rattle.sets.specs.Words.{Lowest}
 use Rattle.sets.specs.WalkLaws.{Walked, walk_all, walk_member}
 use Rattle.sets.specs.MemberLaws.{set_of_below, set_of_in, set_of_holds, all_members, members_all, any_members, members_any}
 use Rattle.judging.specs.Graph.{adjacent, missing, Valid}
-use Rattle.judging.specs.Plex.{maximal, Plex, Maximal, unblocked, extendable}
+use Rattle.judging.specs.Plex.{Plex, Maximal, unblocked, extendable}
 use Rattle.judging.specs.GraphLaws.{missing_mono, missing_with, adjacent_in, in_adjacent}
-use Rattle.judging.specs.PlexLaws.{maximal_by_one, one_by_maximal, maximal_holds, maximal_test}
+use Rattle.judging.specs.PlexLaws.{maximal_by_one, one_by_maximal}
 
 module _ (g : List ℕ) (k : ℕ) where
   unblocks : ℕ → ℕ → ℕ → Bool
@@ -95,14 +95,6 @@ module _ (g : List ℕ) (k : ℕ) where
       near : (x : ℕ) → bit s x ≡ 0 → Plex g k (with s x) → (v : ℕ) → v < length g → In v s → k ≤ missing g s v → In x (row g v)
       near x e q v lv h m =
           omega (arith, missing_with g s x v e, bit_le (row g v) x, q v lv (in_of_sub s (with s x) v (sub_with s x) h))
-
-  -- the test of maximality, from the two tests of the code
-  pub maximal_by_extension : (s : ℕ) → Valid g → s < 2 ^ length g → Plex g k s → not (extendable g k s) ≡ maximal g k s
-  maximal_by_extension s ok b p = go (extendable g k s) (λ t. t) (λ t. t)
-    where
-      go : (w : Bool) → (T w → T (extendable g k s)) → (T (extendable g k s) → T w) → not w ≡ maximal g k s
-      go true into back = is_false (maximal g k s) (λ t. extendable_none s s ok b (into tt) (sub_refl s) (maximal_holds g k s t))
-      go false into back = is_true (maximal g k s) (maximal_test g k s (unextendable_maximal s ok p back))
 
 -- ---- an extendable set, vertex by vertex
 

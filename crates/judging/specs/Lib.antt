@@ -9,10 +9,8 @@ pub mod Calls
 pub mod GraphLaws
 pub mod PlexLaws
 pub mod LoosenessLaws
-pub mod MaximalLaws
 pub mod ExtensionLaws
 pub mod NarrowLaws
 pub mod SurveyLaws
 pub mod RefusalLaws
 pub mod CallLaws
-pub mod OutcomeLaws

@@ -1,17 +1,16 @@
 -- Laws of looseness: a set is a k-plex exactly where its looseness is at most k, so it is the least such slack, and what is known of plexes bounds it.
-use Rattle.std.specs.Prelude.{ℕ, ◌^◌, ◌≤◌, ◌<◌, ◌≡◌, false, List, leb, length}
-use Rattle.std.proofs.Common.{arith, ap, leb→le, le→leb}
+use Rattle.std.specs.Prelude.{ℕ, ◌^◌, ◌≤◌, ◌<◌, ◌≡◌, List, length}
+use Rattle.std.proofs.Common.{arith, ap}
 use Rattle.sets.specs.Ranges.{greatest}
 use Rattle.sets.specs.Set.{Sub, size, members}
-use Rattle.sets.specs.RangeLaws.{test_same, is_false}
 use Rattle.sets.specs.ListLaws.{greatest_le, greatest_ge}
 use Rattle.sets.specs.PointLaws.{by_bit, none_by}
 use Rattle.sets.specs.SubsetLaws.{in_below}
 use Rattle.sets.specs.MemberLaws.{mem_members, members_mem, members_none}
 use Rattle.judging.specs.Graph.{missing, Valid}
-use Rattle.judging.specs.Plex.{plex, maximal, looseness, Plex}
+use Rattle.judging.specs.Plex.{looseness, Plex}
 use Rattle.judging.specs.GraphLaws.{missing_self}
-use Rattle.judging.specs.PlexLaws.{plex_holds, plex_test, hereditary, small_plex, maximal_holds}
+use Rattle.judging.specs.PlexLaws.{hereditary, small_plex}
 
 -- ---- the least slack
 
@@ -23,15 +22,6 @@ module _ (g : List ℕ) (k s : ℕ) where
   pub loose_plex : looseness g s ≤ k → Plex g k s
   unfolding looseness
   loose_plex h v l i = omega (arith, greatest_ge (missing g s) (members (length g) s) v (mem_members (length g) s v l i))
-
-  -- what is no plex is not maximal
-  pub loose_maximal : k < looseness g s → false ≡ maximal g k s
-  loose_maximal h = is_false (maximal g k s) (λ t. omega (arith, plex_loose (maximal_holds g k s t).0))
-
-pub plex-looseness : (g : List ℕ) (k s : ℕ) → plex g k s ≡ leb (looseness g s) k
-plex-looseness g k s =
-    test_same (plex g k s) (leb (looseness g s) k) (λ t. le→leb (looseness g s) k (plex_loose g k s (plex_holds g k s t)))
-    (λ t. plex_test g k s (loose_plex g k s (leb→le (looseness g s) k t)))
 
 module _ (g : List ℕ) (s : ℕ) where
   pub looseness_holds : Plex g (looseness g s) s

@@ -20,8 +20,8 @@ use Rattle.judging.specs.Graph.{adjacent, Valid}
 use Rattle.judging.specs.Request.{Request}
 use Rattle.judging.specs.Refusal.{Reply, refused, answered, Cause, first_cause, most_vertices, most_slack, outside, vertex_cause, slack_cause, floor_cause}
 use Rattle.judging.specs.Refusal.{bad_row, one_way, lowest_row, row_cause, edge_cause, graph_causes, set_cause, vertex_out_cause}
-use Rattle.judging.specs.Calls.{passed, graph_check, slack_check, number_check, floor_check, request_check, inside_check, set_check}
-use Rattle.judging.specs.Setting.{Sized, Judgeable}
+use Rattle.judging.specs.Calls.{passed, graph_check, slack_check, number_check, floor_check, request_check}
+use Rattle.judging.specs.Setting.{Sized}
 
 -- ---- one cause after the other
 
@@ -280,9 +280,6 @@ module _ (g : List ℕ) where
   unfolding set_cause
   set_below s e = leb-false (2 ^ length g) s e
 
-  pub numbers_sized : (k q : ℕ) → first_cause (number_check (length g) k q) passed ≡ passed → Sized g
-  numbers_sized k q e = let r = numbers_vertices (length g) k q e in record { some = r.0; most = omega (arith, r.1) }
-
   pub floor_slack : (k q : ℕ) → first_cause (floor_check g k q) passed ≡ passed → first_cause (slack_check g k) passed ≡ passed
   unfolding slack_check floor_check number_check
   floor_slack k q e =
@@ -320,16 +317,3 @@ module _ (g : List ℕ) where
   pub vertex_below : (v : ℕ) → (vertex_out_cause g v).holds ≡ false → v < length g
   unfolding vertex_out_cause
   vertex_below v e = leb-false (length g) v e
-
-  graph_set : (s : ℕ) → first_cause (graph_check g) passed ≡ passed → first_cause (set_cause g s ∷ []) passed ≡ passed → Judgeable g s
-  graph_set s front back =
-      let z = graph_sized front in
-      record { inside = record { some = z.some; most = z.most; below = set_below s (passed_head _ _ back) }; valid = graph_checked front }
-
-  pub inside_checked : (s : ℕ) → first_cause (inside_check g s) passed ≡ passed → Judgeable g s
-  unfolding inside_check
-  inside_checked s e = graph_set s (passed_front _ _ e) (passed_back (graph_check g) _ e)
-
-  pub set_checked : (k s : ℕ) → first_cause (set_check g k s) passed ≡ passed → Judgeable g s
-  unfolding set_check
-  set_checked k s e = graph_set s (slack_graph k (passed_front _ _ e)) (passed_back (slack_check g k) _ e)

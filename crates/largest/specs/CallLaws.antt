@@ -11,7 +11,8 @@ use Rattle.judging.specs.LoosenessLaws.{plex_loose, loose_plex}
 use Rattle.judging.specs.Request.{request}
 use Rattle.judging.specs.Refusal.{refused, answered, first_cause, set_cause}
 use Rattle.judging.specs.Calls.{refusal, passed, checked_reply, slack_check, set_check}
-use Rattle.judging.specs.RefusalLaws.{first_append, first_holds, first_skips, first_passed, passed_front, slack_accepted, set_checked}
+use Rattle.judging.specs.RefusalLaws.{first_append, first_holds, first_skips, first_passed, passed_front, slack_accepted}
+use Rattle.judging.proofs.PassedLaws.{set_checked}
 use Rattle.judging.specs.CallLaws.{front_refused}
 use Rattle.judging.specs.declared.Refusal.{Refusal}
 use Rattle.judging.specs.declared.Checked.{Checked}

@@ -16,7 +16,7 @@ use Rattle.sets.specs.SizeLaws.{size_mono, sub-size_eq}
 use Rattle.judging.specs.Request.{request}
 use Rattle.judging.specs.Plex.{plex, Plex, Maximal}
 use Rattle.judging.specs.PlexLaws.{plex_holds, plex_test, small_plex}
-use Rattle.judging.specs.MaximalLaws.{plex_within_maximal}
+use Rattle.judging.proofs.MaximalLaws.{plex_within_maximal}
 use Rattle.lists.specs.Listing.{Listed}
 use Rattle.largest.specs.Largest.{holding, largest_size, largest_mask, Holding, Largest}
 

@@ -11,7 +11,8 @@ use Rattle.judging.specs.Plex.{looseness, Plex, Maximal}
 use Rattle.judging.specs.LoosenessLaws.{loose_plex}
 use Rattle.judging.specs.Refusal.{answered, first_cause}
 use Rattle.judging.specs.Calls.{passed, set_check}
-use Rattle.judging.specs.RefusalLaws.{answered_passed, answered_value, answered_found, passed_front, passed_back, passed_head, set_checked}
+use Rattle.judging.specs.RefusalLaws.{answered_passed, answered_value, answered_found, passed_front, passed_back, passed_head}
+use Rattle.judging.proofs.PassedLaws.{set_checked}
 use Rattle.lists.specs.Listing.{listing}
 use Rattle.lists.specs.ListingLaws.{listing_complete}
 use Rattle.largest.specs.Largest.{largest_size, largest_mask, Holding, Largest}

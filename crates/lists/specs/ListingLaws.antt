@@ -16,7 +16,7 @@ use Rattle.sets.specs.WordLaws.{sub-full}
 use Rattle.sets.specs.RangeLaws.{Mem, mem_range, range_mem, keep_mem, mem_keep, and_left, and_right, both, test_same}
 use Rattle.judging.specs.Request.{Request, request, recorded}
 use Rattle.judging.specs.Plex.{maximal}
-use Rattle.judging.specs.PlexLaws.{maximal_holds, maximal_test}
+use Rattle.judging.proofs.TestLaws.{maximal_holds, maximal_test}
 use Rattle.lists.specs.Order.{Shuffled, Sorts}
 use Rattle.lists.specs.OrderLaws.{rising_ordered, ordered_unique, rising_unique}
 use Rattle.lists.specs.Placing.{number, most_count, Adds}

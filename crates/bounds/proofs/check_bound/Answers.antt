@@ -1,6 +1,6 @@
 -- The causes are tested in their order: those of the table, the slack and s, then c, then v, then their places. The first that holds is the reply.
 use native.Mathlib.Omega.{arith}
-use Rattle.judging.specs.RefusalLaws.{set_checked}
+use Rattle.judging.proofs.PassedLaws.{set_checked}
 use Rattle.judging.specs.CallLaws.{none_holds}
 use Rattle.bounds.specs.BoundCallLaws.{set_refused, candidates_refused, vertex_refused, bound_refused, bound_accepted}
 use Rattle.bounds.proofs.check_bound.Goals as goal

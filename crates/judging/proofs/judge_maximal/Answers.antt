@@ -1,7 +1,7 @@
 -- The checks decide first: a failed one is the reply. What passed is a set of vertices of a valid graph, and the test decides.
 use mathlib.Core.Path.{sym, ◌∙◌}
 use Rattle.judging.specs.Calls.{maximal_reply}
-use Rattle.judging.specs.RefusalLaws.{set_checked}
+use Rattle.judging.proofs.PassedLaws.{set_checked}
 use Rattle.judging.specs.CallLaws.{check_failed, check_answers, none_holds}
 use Rattle.judging.proofs.judge_maximal.Goals as goal
 

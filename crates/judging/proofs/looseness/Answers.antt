@@ -1,6 +1,6 @@
 -- The checks decide first: a failed one is the reply. What passed is a set of vertices of a valid graph, and its looseness is the answer.
 use Rattle.judging.specs.Calls.{looseness_reply}
-use Rattle.judging.specs.RefusalLaws.{inside_checked}
+use Rattle.judging.proofs.PassedLaws.{inside_checked}
 use Rattle.judging.specs.CallLaws.{check_failed, check_answers, none_holds}
 use Rattle.judging.proofs.looseness.Goals as goal
 

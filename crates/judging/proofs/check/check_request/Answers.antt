@@ -4,7 +4,7 @@ use lib.ListN.{length}
 use Rattle.sets.specs.Words.{masks}
 use Rattle.judging.specs.Refusal.{first_cause}
 use Rattle.judging.specs.Calls.{number_check, request_check, passed, checked_reply}
-use Rattle.judging.specs.RefusalLaws.{numbers_sized}
+use Rattle.judging.proofs.PassedLaws.{numbers_sized}
 use Rattle.judging.specs.CallLaws.{none_holds, front_refused, front_accepted}
 use Rattle.judging.proofs.check.check_request.Goals as goal
 

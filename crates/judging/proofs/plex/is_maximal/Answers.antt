@@ -2,9 +2,8 @@
 use native.Mathlib.Omega.{arith}
 use mathlib.Core.Path.{ap, ◌∙◌}
 use mathlib.Core.Bool.{not}
-use Rattle.judging.specs.LoosenessLaws.{loose_maximal}
 use Rattle.judging.specs.SurveyLaws.{finds_plex}
-use Rattle.judging.specs.ExtensionLaws.{maximal_by_extension}
+use Rattle.judging.proofs.TestLaws.{loose_maximal, maximal_by_extension}
 use Rattle.judging.proofs.plex.is_maximal.Goals as goal
 
 pub returns-then-k-seen : goal.returns-then-k-seen

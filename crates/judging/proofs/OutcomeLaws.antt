@@ -8,9 +8,10 @@ use Rattle.judging.specs.Plex.{maximal, looseness, Plex, Maximal}
 use Rattle.judging.specs.Refusal.{answered}
 use Rattle.judging.specs.Setting.{Judgeable}
 use Rattle.judging.specs.Calls.{inside_check, set_check, looseness_reply, maximal_reply}
-use Rattle.judging.specs.PlexLaws.{maximal_holds, maximal_test}
 use Rattle.judging.specs.LoosenessLaws.{plex_loose, loose_plex, looseness-size, looseness_mono, looseness_none, none_loose}
-use Rattle.judging.specs.RefusalLaws.{answered_value, answered_found, answered_passed, inside_checked}
+use Rattle.judging.specs.RefusalLaws.{answered_value, answered_found, answered_passed}
+use Rattle.judging.proofs.TestLaws.{maximal_holds, maximal_test}
+use Rattle.judging.proofs.PassedLaws.{inside_checked}
 
 -- ---- how loose is s?
 
