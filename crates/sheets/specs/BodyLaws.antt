@@ -1,6 +1,6 @@
 -- The lines below line 1 as the code judges them and stores their rows, and the definitions of them.
-use Rattle.std.specs.Prelude.{ℕ, ◌+◌, ◌*◌, ◌≤◌, ◌<◌, ◌≡◌, List, ◌∷◌, ◌++◌, length, take, drop}
-use Rattle.std.proofs.Common.{arith, ap₂, ◌∙◌, subst, lt-ltb, le-ltb, length-drop}
+use Rattle.std.specs.Prelude.{ℕ, ◌+◌, ◌*◌, ◌≤◌, ◌<◌, ◌≡◌, List, ◌∷◌, ◌++◌, length, take}
+use Rattle.std.proofs.Common.{arith, ap₂, ◌∙◌, subst, lt-ltb, le-ltb}
 use Rattle.std.proofs.Math.Path.{sym, ap}
 use Rattle.std.proofs.Math.Bool.{◌||◌}
 use Rattle.std.proofs.lemmas.List.{length-replicate}
@@ -13,8 +13,8 @@ use Rattle.judging.specs.Setting.{Sized}
 use Rattle.judging.specs.RefusalLaws.{first_holds, first_skips}
 use Rattle.sheets.specs.Lines.{right_lines}
 use Rattle.sheets.specs.Sheet.{row_digits, row_length, lines_cause, body_causes}
-use Rattle.sheets.specs.Setting.{Field, SetLine, BodyLines}
-use Rattle.sheets.specs.LineLaws.{right_most, right_fits, right_digits, each_right}
+use Rattle.sheets.specs.Setting.{SetLine, BodyLines}
+use Rattle.sheets.specs.LineLaws.{right_most, each_right}
 use Rattle.sheets.specs.SheetLaws.{lines_clear, clear_lines, wrong_line, passed_lines}
 
 -- a is how many of m lines the code found right
@@ -45,15 +45,6 @@ passed_right n t e = (lines_clear (n + 1) t (passed_lines n t e)).0
 
 pub body-line : {n : ℕ} {t : List ℕ} → BodyLines n t → (a : ℕ) → a ≤ n → SetLine a t
 body-line {n} {t} h a l = record { most = omega (arith, h.most); right = each_right row_digits (n + 1) a t h.right (omega arith) }
-
-pub line-field : {a : ℕ} {t : List ℕ} → SetLine a t → Field (a * row_length) row_digits t
-line-field {a} {t} h =
-    let u = drop (a * row_length) t in
-    record {
-      inside = omega (arith, right_fits row_digits u h.right, length-drop (a * row_length) t);
-      digit = right_digits row_digits u h.right;
-      short = omega arith;
-    }
 
 -- ---- lent words
 

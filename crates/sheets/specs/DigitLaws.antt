@@ -1,13 +1,13 @@
 -- Laws of digits: a digit and its byte are inverse, and so are a number and its digits, whatever the number of digits. The records at the end say what the
 -- loops over digits know at each turn.
 use Rattle.std.specs.Prelude.{ℕ, zero, suc, ◌+◌, ◌-◌, ◌*◌, ◌/◌, ◌%◌, ◌^◌, ◌≤◌, ◌<◌, ◌≡◌, refl, Bool, ◌&&◌, cond, List, [], ◌∷◌, ◌++◌, T, leb, length, get_or, set}
-use Rattle.std.proofs.Common.{lt_of_lt_of_le, le_refl, zero-lt-suc, mul_assoc, add-zero, zero-add, add-suc, suc-add, arith, add-one, ◌∙◌, append_assoc, append-nil, ltb→lt, lt→ltb, le-leb, lt-ltb, le-ltb, pow-add, length-append, length-set, drop_of_length-le, drop-cons, get_or-set_same, drop-set-lt, lt-length-set}
+use Rattle.std.proofs.Common.{lt_of_lt_of_le, le_refl, zero-lt-suc, mul_assoc, add-zero, add-suc, suc-add, arith, add-one, ◌∙◌, append_assoc, append-nil, ltb→lt, lt→ltb, le-leb, lt-ltb, le-ltb, pow-add, length-append, length-set, drop_of_length-le, drop-cons, get_or-set_same, drop-set-lt, lt-length-set}
 use Rattle.std.proofs.Math.Nat.{pow-le-pow_right, pow-suc}
 use Rattle.std.proofs.Math.Decide.{dec_lt, dec_le}
 use Rattle.std.proofs.Math.Path.{sym, ap, ap₂, subst}
 use Rattle.std.proofs.Math.Bool.{true, false}
 use Rattle.std.proofs.lemmas.Bool.{lt-leb}
-use Rattle.std.proofs.Math.Arith.{digits_div, digits_mod, lt-one, le-zero}
+use Rattle.std.proofs.Math.Arith.{digits_div, digits_mod, le-zero}
 use Rattle.std.proofs.Math.ListN.{drop}
 use Rattle.std.proofs.Math.Seq.{drop-length}
 use Rattle.sets.specs.Words.{word_bits}
@@ -104,19 +104,10 @@ all_digits (suc w) x =
 
 -- ---- a number and its digits
 
-number_from-append : (x : ℕ) (bs cs : List ℕ) → number_from x (bs ++ cs) ≡ number_from (number_from x bs) cs
+pub number_from-append : (x : ℕ) (bs cs : List ℕ) → number_from x (bs ++ cs) ≡ number_from (number_from x bs) cs
 unfolding number_from
 number_from-append x [] cs = refl
 number_from-append x (b ∷ bs) cs = number_from-append (x * 16 + digit_value b) bs cs
-
-pub number_digits_lem : (w x : ℕ) → x < 16 ^ w → number (digits w x) ≡ x
-unfolding number digits number_from
-number_digits_lem zero x h = sym (lt-one h)
-number_digits_lem (suc w) x h =
-    let d = x % 16 in
-    let low : x % 16 < no_digit = omega arith in
-    number_from-append 0 (digits w (x / 16)) (digit_byte d ∷ [])
-    ∙ omega (arith, number_digits_lem w (x / 16) (omega (arith, pow-suc 16 w)), value_byte (x % 16) low)
 
 -- the last w digits of a number do not show what stands above them
 digits_above : (w p x : ℕ) → digits w (p * 16 ^ w + x) ≡ digits w x
@@ -137,7 +128,7 @@ digits_word w q x l =
     rw e (digits_above w (q * 16 ^ n) x)
 
 -- the digits of the number that goes on from x with the digits bs are those of x and then bs
-digits_from : (w x : ℕ) (bs : List ℕ) → T (all is_digit bs) → digits (w + length bs) (number_from x bs) ≡ digits w x ++ bs
+pub digits_from : (w x : ℕ) (bs : List ℕ) → T (all is_digit bs) → digits (w + length bs) (number_from x bs) ≡ digits w x ++ bs
 unfolding number_from all digits
 digits_from w x [] t = ap (λ (n : ℕ). digits n x) (add-zero w) ∙ sym (append-nil (digits w x))
 digits_from w x (b ∷ bs) t =
@@ -147,10 +138,6 @@ digits_from w x (b ∷ bs) t =
     ∙ append_assoc (digits w ((x * 16 + digit_value b) / 16)) (digit_byte ((x * 16 + digit_value b) % 16) ∷ []) bs
     ∙ ap₂ (λ (y z : ℕ). digits w y ++ digit_byte z ∷ bs) (digits_div x d) (digits_mod x d)
     ∙ ap (λ (y : ℕ). digits w x ++ y ∷ bs) (byte_value b (and_left (is_digit b) (all is_digit bs) t))
-
-pub digits_number : (bs : List ℕ) → T (all is_digit bs) → digits (length bs) (number bs) ≡ bs
-unfolding number digits
-digits_number bs t = ap (λ (n : ℕ). digits n (number_from 0 bs)) (sym (zero-add (length bs))) ∙ digits_from 0 0 bs t
 
 -- ---- are the bytes digits? those before i are
 

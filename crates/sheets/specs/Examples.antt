@@ -11,9 +11,8 @@ use Rattle.sets.specs.Graph.{row}
 use Rattle.judging.specs.Graph.{adjacent}
 use Rattle.sheets.specs.Digits.{between, digit_value, is_digit, number_from, number}
 use Rattle.sheets.specs.Lines.{is_line, field, right_lines, numbers}
-use Rattle.sheets.specs.Sheet.{sheet_text, sheet, sheet_of, heading_cause, lines_cause, isolated, isolated_cause, room_cause}
+use Rattle.sheets.specs.Sheet.{sheet, sheet_of, heading_cause, lines_cause, isolated, isolated_cause, room_cause}
 use Rattle.sheets.specs.Sheet.{heading_causes, body_causes, sheet_causes, reading}
-use Rattle.sheets.specs.SheetLaws.{read_back}
 
 -- fourteen digits 0, and two more on a line
 abbrev pub low : ℕ → ℕ → List ℕ → List ℕ
@@ -31,7 +30,7 @@ others rest = low 48 53 (low 48 65 (low 49 52 (low 48 57 rest)))
 unfoldable pub ring : List ℕ
 ring = few 53 (low 48 48 (low 49 50 (others [])))
 
-abbrev ring_rows : List ℕ
+abbrev pub ring_rows : List ℕ
 ring_rows = 0x12 ∷ 0x05 ∷ 0x0A ∷ 0x14 ∷ 0x09 ∷ []
 
 pub examples_read : (reading ring 5 ≡ answered 0 (sheet ring_rows (request 2 3 0)))
@@ -49,9 +48,6 @@ pub examples_read : (reading ring 5 ≡ answered 0 (sheet ring_rows (request 2 3
     × (reading (few 51 (low 48 48 (low 48 48 (low 48 52 (low 48 48 []))))) 3 ≡ refused 5 1)
 unfolding ring reading sheet_causes heading_causes body_causes heading_cause lines_cause isolated isolated_cause room_cause number_check sheet_of first_cause outside vertex_cause slack_cause floor_cause set_cause bad_row one_way lowest_row row_cause edge_cause graph_causes from range all any first bit has row adjacent between digit_value is_digit number_from number is_line field right_lines numbers
 examples_read = (refl, refl, refl, refl, refl, refl, refl, refl)
-
-pub ring_written : ring ≡ sheet_text ring_rows (request 2 3 0)
-ring_written = read_back ring 5 examples_read.0
 
 pub empty_refused : (room : ℕ) → reading [] room ≡ refused 8 1
 unfolding reading sheet_causes heading_causes heading_cause first_cause all is_line

@@ -5,26 +5,13 @@ use Rattle.std.proofs.Math.Path.{sym, ap, ap₂}
 use mathlib.Core.List.{List, [], ◌++◌, append_assoc}
 use Rattle.std.proofs.Math.ListN.{set}
 use Rattle.std.proofs.Math.Seq.{set_at}
-use Rattle.sets.specs.RangeLaws.{true_holds, all_part}
 use Rattle.judging.specs.Request.{Request}
-use Rattle.sheets.specs.Digits.{is_digit, digits}
-use Rattle.sheets.specs.Lines.{newline, is_line}
-use Rattle.sheets.specs.Sheet.{field_digits, heading_digits, heading_length, heading_text}
-use Rattle.sheets.specs.Setting.{Field, HeadingField}
+use Rattle.sheets.specs.Digits.{digits}
+use Rattle.sheets.specs.Lines.{newline}
+use Rattle.sheets.specs.Sheet.{field_digits, heading_length, heading_text}
 use Rattle.sheets.specs.DigitLaws.{digits-length}
-use Rattle.sheets.specs.LineLaws.{line_first, right_fits, right_digits, put_next}
+use Rattle.sheets.specs.LineLaws.{line_first, put_next}
 use Rattle.sheets.specs.SheetLaws.{fields_text, fields_length, heading_length_lem}
-
--- ---- a field, as the code takes it
-
-pub heading-field : {at : ℕ} {t : List ℕ} → HeadingField at t → Field at field_digits t
-heading-field {at} {t} h =
-    let right = true_holds (is_line heading_digits t) h.right in
-    record {
-      inside = omega (arith, h.inside, right_fits heading_digits t right);
-      digit = all_part is_digit at field_digits heading_digits t h.inside (right_digits heading_digits t right);
-      short = omega arith;
-    }
 
 -- ---- line 1 as the code fills it in: three fields, and then the byte at its end
 

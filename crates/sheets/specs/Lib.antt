@@ -13,5 +13,4 @@ pub mod HeadingLaws
 pub mod BodyLaws
 pub mod ReadLaws
 pub mod WriteLaws
-pub mod OutcomeLaws
 pub mod Examples

@@ -1,8 +1,8 @@
 -- Laws of lines: a text of lines is read back as its numbers, and a text whose lines are right is the text of the numbers read. The records say what the
 -- loops over lines know at each turn.
-use Prim.Native.Nat.{ℕ, zero, suc, ◌+◌, ◌-◌, ◌*◌, ◌^◌, ◌≤◌, ◌<◌, suc-le-suc}
+use Prim.Native.Nat.{ℕ, zero, suc, ◌+◌, ◌-◌, ◌*◌, ◌≤◌, ◌<◌, suc-le-suc}
 use Rattle.std.proofs.Math.Nat.{sub-zero, add-zero, add-sub_cancel_left}
-use Rattle.std.proofs.Common.{add-suc, suc-add, le_of_eq, zero-add, le_refl, zero-lt-suc, not-suc-le-zero, le_of_suc-le-suc, suc-mul, zero-mul, add_comm, le_of_lt, add-one, ◌∙◌, subst, eq-eqb, length-drop, drop_of_length-le, length-append, take-append-drop, drop-cons, take_at, drop_at, length-take-le, drop-drop, take-suc, get_or-drop}
+use Rattle.std.proofs.Common.{add-suc, suc-add, le_of_eq, zero-add, le_refl, not-suc-le-zero, le_of_suc-le-suc, suc-mul, zero-mul, add_comm, le_of_lt, add-one, ◌∙◌, subst, eq-eqb, length-drop, drop_of_length-le, length-append, drop-cons, take_at, drop_at, length-take-le, drop-drop, take-suc, get_or-drop}
 use native.Mathlib.Omega.{arith}
 use Rattle.std.proofs.Math.Decide.{dec_lt}
 use Rattle.std.specs.Prelude.{◌≡◌, refl, Bool, true, false, ◌&&◌, take}
@@ -16,7 +16,7 @@ use Rattle.std.proofs.Math.Seq.{get_or_at, set_at, append_snoc, take-length}
 use Rattle.sets.specs.Ranges.{all}
 use Rattle.sets.specs.RangeLaws.{and_left, and_right, both, is_true, is_false, true_holds}
 use Rattle.sheets.specs.Digits.{is_digit, digits, number}
-use Rattle.sheets.specs.DigitLaws.{digits-length, all_digits, number_digits_lem, digits_number}
+use Rattle.sheets.specs.DigitLaws.{digits-length, all_digits}
 use Rattle.sheets.specs.Lines.{newline, line, lines, is_line, field, right_lines, numbers}
 use Rattle.sheets.specs.Sheet.{over}
 use Rattle.sheets.specs.Setting.{Readable, Field}
@@ -54,7 +54,7 @@ module _ (w : ℕ) (t : List ℕ) (r : T (is_line w t)) where
   unfolding is_line
   right_digits = and_left (all is_digit (take w t)) (eqb (get_or t w 0) newline) r
 
-  right_end : get_or t w 0 ≡ newline
+  pub right_end : get_or t w 0 ≡ newline
   unfolding is_line
   right_end = eqb→eq (get_or t w 0) newline (and_right (all is_digit (take w t)) (eqb (get_or t w 0) newline) r)
 
@@ -64,18 +64,6 @@ module _ (w : ℕ) (t : List ℕ) (r : T (is_line w t)) where
       go : Dec (w < length t) → w < length t
       go (yes l) = l
       go (no nl) = absurd (omega (arith, right_end, get_or-eq_default t 0 {n = w} (omega arith)))
-
-  pub right_length : length (take w t) ≡ w
-  right_length = length-take-le w t (omega (arith, right_fits))
-
-  pub right_line : t ≡ line (take w t) ++ drop (suc w) t
-  right_line =
-      sym (take-append-drop w t)
-      ∙ ap (λ (l : List ℕ). take w t ++ l) (drop-cons t w 0 right_fits ∙ ap (λ (x : ℕ). x ∷ drop (suc w) t) right_end)
-      ∙ sym (line_first (take w t) (drop (suc w) t))
-
-  pub right_number : line (digits w (number (take w t))) ≡ line (take w t)
-  right_number = ap line (ap (λ (n : ℕ). digits n (number (take w t))) (sym right_length) ∙ digits_number (take w t) right_digits)
 
 -- ---- lines
 
@@ -99,18 +87,8 @@ lines_right w m (x ∷ xs) t =
     (line_right w (digits w x) (lines w xs ++ t) (digits-length w x) (all_digits w x)) (line-drop w (digits w x) (lines w xs ++ t) (digits-length w x))
     ∙ ap suc (lines_right w m xs t) ∙ sym (suc-add (length xs) (right_lines w m t))
 
-pub lines-numbers : (w : ℕ) (xs t : List ℕ) → ((a : ℕ) → a < length xs → get_or xs a 0 < 16 ^ w) → numbers w (length xs) (lines w xs ++ t) ≡ xs
-unfolding numbers lines
-lines-numbers w [] t h = refl
-lines-numbers w (x ∷ xs) t h =
-    ap (λ (l : List ℕ). number (take w l) ∷ numbers w (length xs) (drop (suc w) l)) (append_assoc (line (digits w x)) (lines w xs) t)
-    ∙ ap₂ (λ (y : ℕ) (l : List ℕ). y ∷ numbers w (length xs) l)
-    (ap number (line-take w (digits w x) (lines w xs ++ t) (digits-length w x)) ∙ number_digits_lem w x (h 0 (zero-lt-suc (length xs))))
-    (line-drop w (digits w x) (lines w xs ++ t) (digits-length w x))
-    ∙ ap (λ (l : List ℕ). x ∷ l) (lines-numbers w xs t (λ a l. h (suc a) (suc-le-suc l)))
-
 -- behind one line and a more, or a lines and one more, stands what is behind a + 1 lines
-line_then_lines : (w a : ℕ) (t : List ℕ) → drop (a * suc w) (drop (suc w) t) ≡ drop (suc a * suc w) t
+pub line_then_lines : (w a : ℕ) (t : List ℕ) → drop (a * suc w) (drop (suc w) t) ≡ drop (suc a * suc w) t
 line_then_lines w a t = drop-drop (a * suc w) (suc w) t ∙ ap (λ (m : ℕ). drop m t) (add_comm (suc w) (a * suc w) ∙ sym (suc-mul a (suc w)))
 
 lines_then_line : (w a : ℕ) (t : List ℕ) → drop (suc w) (drop (a * suc w) t) ≡ drop (suc a * suc w) t
@@ -122,25 +100,13 @@ unfolding field
 field_below w a t = rw (line_then_lines w a t, add-one a)
 
 -- of n + 1 lines that are right the first is, and so are the others
-right_split : (w n : ℕ) (t : List ℕ) → right_lines w (suc n) t ≡ suc n → T (is_line w t) × (right_lines w n (drop (suc w) t) ≡ n)
+pub right_split : (w n : ℕ) (t : List ℕ) → right_lines w (suc n) t ≡ suc n → T (is_line w t) × (right_lines w n (drop (suc w) t) ≡ n)
 unfolding right_lines
 right_split w n t e = go (is_line w t) refl e
   where
     go : (b : Bool) → is_line w t ≡ b → cond b (suc (right_lines w n (drop (suc w) t))) 0 ≡ suc n → T (is_line w t) × (right_lines w n (drop (suc w) t) ≡ n)
     go true r q = (true_holds (is_line w t) r, omega arith)
     go false r q = absurd (omega arith)
-
-pub right_lines_lem : (w n : ℕ) (t : List ℕ) → right_lines w n t ≡ n → t ≡ lines w (numbers w n t) ++ drop (n * suc w) t
-unfolding numbers lines
-right_lines_lem w zero t e = ap (λ (m : ℕ). drop m t) (sym (zero-mul (suc w)))
-right_lines_lem w (suc n) t e =
-    let s = right_split w n t e in
-    let first = line (digits w (number (take w t))) in
-    let rest = lines w (numbers w n (drop (suc w) t)) in
-    right_line w t s.0
-    ∙ ap₂ ◌++◌ (sym (right_number w t s.0)) (right_lines_lem w n (drop (suc w) t) s.1)
-    ∙ sym (append_assoc first rest (drop (n * suc w) (drop (suc w) t)))
-    ∙ ap (λ (l : List ℕ). first ++ rest ++ l) (line_then_lines w n t)
 
 pub right_most : (w n : ℕ) (t : List ℕ) → right_lines w n t ≤ n
 unfolding right_lines
@@ -331,9 +297,6 @@ lines_written w {x} xs t l c e f h =
     over_both (line (digits w x)) (lines w xs) t long (f ∙ ap (λ (v : List ℕ). v ++ drop (suc w) t) one) h
 
 -- ---- one line as the code makes it, from position at on
-
-pub line_short : (w at : ℕ) (t : List ℕ) → length t ≤ at + w → is_line w (drop at t) ≡ false
-line_short w at t l = sym (is_false (is_line w (drop at t)) (λ r. absurd (omega (arith, right_fits w (drop at t) r, length-drop at t))))
 
 pub line_unended : (w at : ℕ) (t : List ℕ) → (get_or t (at + w) 0 ≡ newline → ⊥) → is_line w (drop at t) ≡ false
 line_unended w at t f = sym (is_false (is_line w (drop at t)) (λ r. f (sym (get_or-drop at t w 0) ∙ right_end w (drop at t) r)))

@@ -6,7 +6,6 @@ use mathlib.Core.List.{List, [], ◌∷◌, ◌++◌}
 use borrow.Author.Rules.{part_to_end}
 use Rattle.std.proofs.Math.ListN.{length, drop}
 use Rattle.std.proofs.Math.Seq.{length-take-le}
-use Rattle.sets.specs.RangeLaws.{true_holds}
 use Rattle.sets.specs.Words.{per_set, width, masks}
 use Rattle.sets.specs.Words.Masks.{offset_fits, lent_length, back_before}
 use Rattle.judging.specs.Request.{Request, request, asked}
@@ -19,14 +18,13 @@ use Rattle.judging.specs.declared.Refusal.TheVariants.{Room}
 use Rattle.judging.specs.declared.Checked.{Checked}
 use Rattle.judging.specs.declared.Checked.TheVariants.{Failed}
 use Rattle.judging.specs.declared.Request as code
-use Rattle.sheets.specs.Lines.{is_line}
 use Rattle.sheets.specs.Sheet.{field_digits, heading_digits, heading_length, row_digits, row_length, vertex_field, slack_field, floor_field}
 use Rattle.sheets.specs.Sheet.{body, silent_in, rows_in, request_in, Sheet, sheet, sheet_of, room_cause, heading_causes, body_causes, sheet_causes}
 use Rattle.sheets.specs.Sheet.{reading, over, rows_after}
 use Rattle.sheets.specs.Calls.{heading, heading_of, ReadSheet}
 use Rattle.sheets.specs.declared.SheetRead.TheVariants.{Read, Refused}
 use Rattle.sheets.specs.Setting.{HeadingField, BodyLines}
-use Rattle.sheets.specs.LineLaws.{right_fits, numbers-length}
+use Rattle.sheets.specs.LineLaws.{numbers-length}
 use Rattle.sheets.specs.SheetLaws.{passed_line, passed_fields, passed_heading, passed_body}
 use Rattle.sheets.specs.BodyLaws.{passed_right}
 
@@ -57,9 +55,6 @@ abbrev pub lent_body : List ℕ → List ℕ
 lent_body t = take (length t - heading_length) (drop heading_length t)
 
 module _ (t : List ℕ) (e : first_cause (heading_causes t) passed ≡ passed) where
-  pub heading_fits : heading_length ≤ length t
-  heading_fits = omega (arith, right_fits heading_digits t (true_holds (is_line heading_digits t) (passed_line t e)))
-
   pub field_right : {at : ℕ} → at + field_digits ≤ heading_digits → HeadingField at t
   field_right l = record { inside = l; right = passed_line t e }
 

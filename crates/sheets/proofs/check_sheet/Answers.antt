@@ -5,7 +5,8 @@ use Rattle.judging.specs.Refusal.{first_cause}
 use Rattle.judging.specs.Calls.{passed}
 use Rattle.judging.specs.CallLaws.{none_holds, front_refused}
 use Rattle.sheets.specs.Sheet.{heading_causes, sheet_causes}
-use Rattle.sheets.specs.ReadLaws.{heading_fits, field_right, vertices_read, body_judged}
+use Rattle.sheets.specs.ReadLaws.{field_right, vertices_read, body_judged}
+use Rattle.sheets.proofs.FieldLaws.{heading_fits}
 use Rattle.sheets.proofs.check_sheet.Goals as goal
 
 pub returns-in-Failed : goal.returns-in-Failed

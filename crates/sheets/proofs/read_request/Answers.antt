@@ -3,7 +3,8 @@ use native.Mathlib.Omega.{arith}
 use mathlib.Core.Path.{refl}
 use Rattle.sheets.specs.SheetLaws.{passed_heading}
 use Rattle.sheets.specs.BodyLaws.{body-line}
-use Rattle.sheets.specs.ReadLaws.{heading_fits, field_right, lines_read, request_read}
+use Rattle.sheets.specs.ReadLaws.{field_right, lines_read, request_read}
+use Rattle.sheets.proofs.FieldLaws.{heading_fits}
 use Rattle.sheets.proofs.read_request.Goals as goal
 
 pub field-slack-requires : goal.field-slack-requires

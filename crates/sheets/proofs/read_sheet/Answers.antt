@@ -12,7 +12,8 @@ use Rattle.judging.specs.CallLaws.{none_holds}
 use Rattle.sheets.specs.Sheet.{heading_length, sheet_causes}
 use Rattle.sheets.specs.SheetLaws.{passed_heading}
 use Rattle.sheets.specs.BodyLaws.{taken_lines}
-use Rattle.sheets.specs.ReadLaws.{sheet_refused, heading_fits, field_right, lent_body, lines_read, room_refused, rows_read}
+use Rattle.sheets.specs.ReadLaws.{sheet_refused, field_right, lent_body, lines_read, room_refused, rows_read}
+use Rattle.sheets.proofs.FieldLaws.{heading_fits}
 use Rattle.sheets.proofs.read_sheet.Goals as goal
 
 pub returns-in-Failed : goal.returns-in-Failed

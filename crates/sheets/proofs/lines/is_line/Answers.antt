@@ -1,7 +1,8 @@
 -- A line that is too short or does not end where it should is none; and else its bytes decide, as in the definition.
 use native.Mathlib.Omega.{arith}
 use mathlib.Core.Path.{sym, ◌∙◌}
-use Rattle.sheets.specs.LineLaws.{line_short, line_unended, line_ended}
+use Rattle.sheets.specs.LineLaws.{line_unended, line_ended}
+use Rattle.sheets.proofs.RightLaws.{line_short}
 use Rattle.sheets.proofs.lines.is_line.Goals as goal
 
 pub returns-then-text-end : goal.returns-then-text-end

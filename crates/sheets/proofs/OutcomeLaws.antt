@@ -16,8 +16,10 @@ use Rattle.sheets.specs.Sheet.{Linked, isolated_cause, field_causes, set_causes,
 use Rattle.sheets.specs.OverLaws.{over_front}
 use Rattle.sheets.specs.LineLaws.{numbers-length}
 use Rattle.sheets.specs.SheetLaws.{passed_fields, passed_sets, passed_heading, passed_body}
-use Rattle.sheets.specs.SheetLaws.{read_passed, read_answer, read_back, request-reading, request-writing}
-use Rattle.sheets.specs.SheetLaws.{passed_request, passed_isolated, passed_reads, written_check, written_back}
+use Rattle.sheets.specs.SheetLaws.{read_passed, read_answer}
+use Rattle.sheets.specs.SheetLaws.{passed_request, passed_isolated, written_check}
+use Rattle.sheets.proofs.BackLaws.{read_back}
+use Rattle.sheets.proofs.WrittenLaws.{request-reading, request-writing, passed_reads, written_back}
 use Rattle.sheets.specs.IsolatedLaws.{isolated_lowest, isolated_holds, linked_clear, clear_linked, one_isolated, linked_two}
 use Rattle.sheets.specs.WriteLaws.{sheet_length_lem, accepted_writes}
 
