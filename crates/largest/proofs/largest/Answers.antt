@@ -1,7 +1,7 @@
 -- The checks decide first, then how loose the forced set is, and what the climb finds is what the definition says.
 use native.Mathlib.Omega.{arith}
 use mathlib.Core.Path.{sym}
-use Rattle.judging.specs.RefusalLaws.{set_checked}
+use Rattle.judging.proofs.PassedLaws.{set_checked}
 use Rattle.judging.specs.CallLaws.{none_holds}
 use Rattle.largest.specs.CallLaws.{set_searchable, set_forced, reply_refused, reply_forced, reply_found}
 use Rattle.largest.proofs.largest.Goals as goal
