@@ -19,7 +19,6 @@ pub mod OrderedLaws
 pub mod KeptLaws
 pub mod ExchangeLaws
 pub mod BoundLaws
-pub mod BoundSound
 pub mod SurveyLaws
 pub mod SortLaws
 pub mod BucketLaws
@@ -27,4 +26,3 @@ pub mod PackingLaws
 pub mod KeepingLaws
 pub mod PreparedLaws
 pub mod BoundCallLaws
-pub mod OutcomeLaws

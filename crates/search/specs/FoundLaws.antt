@@ -16,7 +16,7 @@ use Rattle.judging.specs.PlexLaws.{hereditary}
 use Rattle.judging.specs.ExtensionLaws.{extendable_none, unextendable_maximal}
 use Rattle.bounds.specs.Bound.{second_bound}
 use Rattle.bounds.specs.BoundSetting.{Boundable}
-use Rattle.bounds.specs.BoundSound.{second_sound}
+use Rattle.bounds.proofs.BoundSound.{second_sound}
 use Rattle.lists.specs.Listing.{listed}
 use Rattle.lists.specs.ListingLaws.{listed_holds, listed_test, listed_size}
 use Rattle.lists.specs.Placing.{Apart, union}

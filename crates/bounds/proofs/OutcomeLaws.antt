@@ -23,7 +23,7 @@ use Rattle.bounds.specs.PassLaws.{passes-leave, passes_some, passes_most, one_pa
 use Rattle.bounds.specs.PassLaws.{last_takes_none, others_take_some}
 use Rattle.bounds.specs.ReachLaws.{plex-reach}
 use Rattle.bounds.specs.BoundLaws.{second_first}
-use Rattle.bounds.specs.BoundSound.{second_sound, second_largest}
+use Rattle.bounds.proofs.BoundSound.{second_sound, second_largest}
 use Rattle.bounds.specs.BoundCallLaws.{bound_checked}
 
 -- ---- the core
