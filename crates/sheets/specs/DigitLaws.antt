@@ -1,5 +1,5 @@
--- Laws of digits: a digit and its byte are inverse, and so are a number and its digits, whatever the number of digits. The records at the end say what the
--- loops over digits know at each turn.
+-- Laws of digits: a digit and its byte are inverse, and so are a number and its digits, whatever the number of digits (NumberLaws of proofs/). The records at
+-- the end say what the loops over digits know at each turn.
 use Rattle.std.specs.Prelude.{ℕ, zero, suc, ◌+◌, ◌-◌, ◌*◌, ◌/◌, ◌%◌, ◌^◌, ◌≤◌, ◌<◌, ◌≡◌, refl, Bool, ◌&&◌, cond, List, [], ◌∷◌, ◌++◌, T, leb, length, get_or, set}
 use Rattle.std.proofs.Common.{lt_of_lt_of_le, le_refl, zero-lt-suc, mul_assoc, add-zero, add-suc, suc-add, arith, add-one, ◌∙◌, append_assoc, append-nil, ltb→lt, lt→ltb, le-leb, lt-ltb, le-ltb, pow-add, length-append, length-set, drop_of_length-le, drop-cons, get_or-set_same, drop-set-lt, lt-length-set}
 use Rattle.std.proofs.Math.Nat.{pow-le-pow_right, pow-suc}

@@ -1,4 +1,4 @@
--- Line 1 as the code reads and fills it, and the definitions of it.
+-- Line 1 as the code fills it, and the definitions of it.
 use Rattle.std.specs.Prelude.{ℕ, ◌+◌, ◌≤◌, ◌≡◌, refl, length, get_or, take, drop}
 use Rattle.std.proofs.Common.{arith, ◌∙◌, length-append, length-drop, drop-cons, drop-drop, drop_at, length-take-le}
 use Rattle.std.proofs.Math.Path.{sym, ap, ap₂}

@@ -1,4 +1,4 @@
--- Laws of lines: a text of lines is read back as its numbers, and a text whose lines are right is the text of the numbers read. The records say what the
+-- Laws of lines: what is known of lines that were laid out, and of a line that is right; RightLaws of proofs/ goes on from there. The records say what the
 -- loops over lines know at each turn.
 use Prim.Native.Nat.{ℕ, zero, suc, ◌+◌, ◌-◌, ◌*◌, ◌≤◌, ◌<◌, suc-le-suc}
 use Rattle.std.proofs.Math.Nat.{sub-zero, add-zero, add-sub_cancel_left}
