@@ -12,4 +12,3 @@ pub mod ColourLaws
 pub mod SeekLaws
 pub mod ClimbLaws
 pub mod CallLaws
-pub mod OutcomeLaws

@@ -3,7 +3,8 @@ use native.Mathlib.Omega.{arith}
 use mathlib.Core.Path.{sym}
 use Rattle.judging.proofs.PassedLaws.{set_checked}
 use Rattle.judging.specs.CallLaws.{none_holds}
-use Rattle.largest.specs.CallLaws.{set_searchable, set_forced, reply_refused, reply_forced, reply_found}
+use Rattle.largest.specs.CallLaws.{set_searchable, set_forced, reply_refused}
+use Rattle.largest.proofs.ForcedLaws.{reply_forced, reply_found}
 use Rattle.largest.proofs.largest.Goals as goal
 
 pub returns-in-Failed : goal.returns-in-Failed
