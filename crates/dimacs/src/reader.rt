@@ -1,5 +1,4 @@
-// A line reader: the text, and the position of the next line. The borrow checker covers no function over a struct that holds a reference, so there are few,
-// and each takes the struct apart and leaves the work to a covered one.
+// A line reader: the text, and the position of the next line. There are few functions over it, and each leaves the work to one with plain parameters.
 ghost use Rattle.std.specs.Prelude.{◌≡◌, ◌<◌, length};
 ghost use Rattle.dimacs.specs.Setting.{FirstLine};
 
