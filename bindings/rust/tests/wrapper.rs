@@ -210,11 +210,18 @@ fn refusals() {
         (kadvisk::write_sheet(&[2, 1, 0, 0], 1, 1, 0, &mut text), Refusal::Isolated(2)),
         (kadvisk::read_dimacs(b"p edge 65 0\n", &mut []), Refusal::Vertices),
         (kadvisk::read_dimacs(b"p edge 2 0\n", &mut [0]), Refusal::Room(2)),
-        (kadvisk::read_dimacs(b"p edge 2 1\ne 1 1\n", &mut []), Refusal::DimacsLine(2)),
-        (kadvisk::read_dimacs(b"p edge 2 1\n", &mut []), Refusal::EdgeCount),
     ] {
         assert_eq!(answer, Err(refusal));
         assert_eq!(Refusal::new(refusal.number(), refusal.value()), Some(refusal));
+        assert!(!refusal.to_string().is_empty());
+    }
+    // 15 and 16 are told by reading alone
+    for (answer, refusal, number) in [
+        (kadvisk::read_dimacs(b"p edge 2 1\ne 1 1\n", &mut []), Refusal::DimacsLine(2), 15),
+        (kadvisk::read_dimacs(b"p edge 2 1\n", &mut []), Refusal::EdgeCount, 16),
+    ] {
+        assert_eq!(answer, Err(refusal));
+        assert_eq!(refusal.number(), number);
         assert!(!refusal.to_string().is_empty());
     }
     assert_eq!(Refusal::new(0, 0), None);
