@@ -41,7 +41,8 @@ slice_bounds-rows-end c =
       reply = sym (ap read_reply c.in-Read.is) ∙ c.read_sheet-read.ensures.reply ∙ read_room c.args.text.now;
       rows = c.read_sheet-read.ensures.rows ∙ ap (λ (m : ℕ). rows_after (reading c.args.text.now m) (masks table)) room;
     } in
-    let end_fits : c.offset-end.result ≤ length c.read_sheet-read.new.rows = offset_fits c.in-Read.vertices c.offset-end.result c.read_sheet-read.new.rows c.offset-end.ensures (rows_fit gave) in
+    let end_fits : c.offset-end.result ≤ length c.read_sheet-read.new.rows =
+    offset_fits c.in-Read.vertices c.offset-end.result c.read_sheet-read.new.rows c.offset-end.ensures (rows_fit gave) in
     end_fits
 
 pub slice_bounds-list_out-end : goal.slice_bounds-list_out-end
@@ -50,7 +51,8 @@ slice_bounds-list_out-end c =
       reply = sym (ap read_reply c.in-Read.is) ∙ c.read_sheet-read.ensures.reply ∙ read_room c.args.text.now;
       rows = c.read_sheet-read.ensures.rows ∙ ap (λ (m : ℕ). rows_after (reading c.args.text.now m) (masks table)) room;
     } in
-    let end_fits : c.offset-end.result ≤ length c.read_sheet-read.new.rows = offset_fits c.in-Read.vertices c.offset-end.result c.read_sheet-read.new.rows c.offset-end.ensures (rows_fit gave) in
+    let end_fits : c.offset-end.result ≤ length c.read_sheet-read.new.rows =
+    offset_fits c.in-Read.vertices c.offset-end.result c.read_sheet-read.new.rows c.offset-end.ensures (rows_fit gave) in
     sym (length-take-le c.offset-end.result c.read_sheet-read.new.rows end_fits)
 
 pub list_out-requires : goal.list_out-requires

@@ -13,29 +13,36 @@ use Rattle.answers.proofs.list_out.Goals as goal
 
 pub offset-end-requires : goal.offset-end-requires
 offset-end-requires c =
-    let gave : GaveList (masks c.args.rows.now) (asked c.args.request) (masks c.args.slots.now) c.in-Listed.m c.list-found.new.slots = record { reply = sym (ap list_found_reply c.in-Listed.is) ∙ c.list-found.ensures.reply; slots = c.list-found.ensures.slots } in
+    let gave : GaveList (masks c.args.rows.now) (asked c.args.request) (masks c.args.slots.now) c.in-Listed.m c.list-found.new.slots =
+    record { reply = sym (ap list_found_reply c.in-Listed.is) ∙ c.list-found.ensures.reply; slots = c.list-found.ensures.slots } in
     listed_fits gave
 
 pub slice_bounds-write_list-end : goal.slice_bounds-write_list-end
 slice_bounds-write_list-end c =
-    let gave : GaveList (masks c.args.rows.now) (asked c.args.request) (masks c.args.slots.now) c.in-Listed.m c.list-found.new.slots = record { reply = sym (ap list_found_reply c.in-Listed.is) ∙ c.list-found.ensures.reply; slots = c.list-found.ensures.slots } in
-    let end_fits : c.offset-end.result ≤ length c.list-found.new.slots = offset_fits c.in-Listed.m c.offset-end.result c.list-found.new.slots c.offset-end.ensures (listed_fits gave) in
+    let gave : GaveList (masks c.args.rows.now) (asked c.args.request) (masks c.args.slots.now) c.in-Listed.m c.list-found.new.slots =
+    record { reply = sym (ap list_found_reply c.in-Listed.is) ∙ c.list-found.ensures.reply; slots = c.list-found.ensures.slots } in
+    let end_fits : c.offset-end.result ≤ length c.list-found.new.slots =
+    offset_fits c.in-Listed.m c.offset-end.result c.list-found.new.slots c.offset-end.ensures (listed_fits gave) in
     end_fits
 
 pub slice_bounds-write_list-end-in-Listed : goal.slice_bounds-write_list-end-in-Listed
 slice_bounds-write_list-end-in-Listed c =
-    let gave : GaveList (masks c.args.rows.now) (asked c.args.request) (masks c.args.slots.now) c.in-Listed.m c.list-found.new.slots = record { reply = sym (ap list_found_reply c.in-Listed.is) ∙ c.list-found.ensures.reply; slots = c.list-found.ensures.slots } in
-    let end_fits : c.offset-end.result ≤ length c.list-found.new.slots = offset_fits c.in-Listed.m c.offset-end.result c.list-found.new.slots c.offset-end.ensures (listed_fits gave) in
+    let gave : GaveList (masks c.args.rows.now) (asked c.args.request) (masks c.args.slots.now) c.in-Listed.m c.list-found.new.slots =
+    record { reply = sym (ap list_found_reply c.in-Listed.is) ∙ c.list-found.ensures.reply; slots = c.list-found.ensures.slots } in
+    let end_fits : c.offset-end.result ≤ length c.list-found.new.slots =
+    offset_fits c.in-Listed.m c.offset-end.result c.list-found.new.slots c.offset-end.ensures (listed_fits gave) in
     sym (length-take-le c.offset-end.result c.list-found.new.slots end_fits)
 
 pub write_list-requires : goal.write_list-requires
 write_list-requires c =
-    let gave : GaveList (masks c.args.rows.now) (asked c.args.request) (masks c.args.slots.now) c.in-Listed.m c.list-found.new.slots = record { reply = sym (ap list_found_reply c.in-Listed.is) ∙ c.list-found.ensures.reply; slots = c.list-found.ensures.slots } in
+    let gave : GaveList (masks c.args.rows.now) (asked c.args.request) (masks c.args.slots.now) c.in-Listed.m c.list-found.new.slots =
+    record { reply = sym (ap list_found_reply c.in-Listed.is) ∙ c.list-found.ensures.reply; slots = c.list-found.ensures.slots } in
     omega (arith, c.requires.list, listed_few gave c.offset-end.ensures)
 
 pub returns-in-Listed : goal.returns-in-Listed
 returns-in-Listed c =
-    let gave : GaveList (masks c.args.rows.now) (asked c.args.request) (masks c.args.slots.now) c.in-Listed.m c.list-found.new.slots = record { reply = sym (ap list_found_reply c.in-Listed.is) ∙ c.list-found.ensures.reply; slots = c.list-found.ensures.slots } in
+    let gave : GaveList (masks c.args.rows.now) (asked c.args.request) (masks c.args.slots.now) c.in-Listed.m c.list-found.new.slots =
+    record { reply = sym (ap list_found_reply c.in-Listed.is) ∙ c.list-found.ensures.reply; slots = c.list-found.ensures.slots } in
     listed_out gave c.offset-end.ensures c.write_list.ensures
 
 pub returns-in-Refused : goal.returns-in-Refused

@@ -25,19 +25,24 @@ renew_changed-m-requires c =
 
 pub returns-then-count-m : goal.returns-then-count-m
 returns-then-count-m c =
-    let checks_passed : first_cause (change_check (masks c.args.rows.now) (asked c.args.request) (change c.args.a c.args.b c.args.adjacent)) passed ≡ passed = none_holds _ _ c.check_change-checked.ensures c.in_default.is in
-    let still_long : length (masks c.renew_changed-m.new.slots) ≡ length (masks c.args.slots.now) = omega (arith, count_masks c.renew_changed-m.new.slots, count_masks c.args.slots.now, c.renew_changed-m.auto.slots) in
+    let checks_passed : first_cause (change_check (masks c.args.rows.now) (asked c.args.request) (change c.args.a c.args.b c.args.adjacent)) passed ≡ passed =
+    none_holds _ _ c.check_change-checked.ensures c.in_default.is in
+    let still_long : length (masks c.renew_changed-m.new.slots) ≡ length (masks c.args.slots.now) =
+    omega (arith, count_masks c.renew_changed-m.new.slots, count_masks c.args.slots.now, c.renew_changed-m.auto.slots) in
     change_short _ _ _ checks_passed c.renew_changed-m.ensures (omega (arith, c.if-count-m.true, c.count.ensures, still_long))
 
 pub set_edge-requires : goal.set_edge-requires
 set_edge-requires c =
-    let checks_passed : first_cause (change_check (masks c.args.rows.now) (asked c.args.request) (change c.args.a c.args.b c.args.adjacent)) passed ≡ passed = none_holds _ _ c.check_change-checked.ensures c.in_default.is in
+    let checks_passed : first_cause (change_check (masks c.args.rows.now) (asked c.args.request) (change c.args.a c.args.b c.args.adjacent)) passed ≡ passed =
+    none_holds _ _ c.check_change-checked.ensures c.in_default.is in
     let able = change_changeable _ _ _ checks_passed in
     ((change_accepted _ _ _ checks_passed).sized, able.one, able.other)
 
 pub returns : goal.returns
 returns c =
-    let checks_passed : first_cause (change_check (masks c.args.rows.now) (asked c.args.request) (change c.args.a c.args.b c.args.adjacent)) passed ≡ passed = none_holds _ _ c.check_change-checked.ensures c.in_default.is in
-    let still_long : length (masks c.renew_changed-m.new.slots) ≡ length (masks c.args.slots.now) = omega (arith, count_masks c.renew_changed-m.new.slots, count_masks c.args.slots.now, c.renew_changed-m.auto.slots) in
+    let checks_passed : first_cause (change_check (masks c.args.rows.now) (asked c.args.request) (change c.args.a c.args.b c.args.adjacent)) passed ≡ passed =
+    none_holds _ _ c.check_change-checked.ensures c.in_default.is in
+    let still_long : length (masks c.renew_changed-m.new.slots) ≡ length (masks c.args.slots.now) =
+    omega (arith, count_masks c.renew_changed-m.new.slots, count_masks c.args.slots.now, c.renew_changed-m.auto.slots) in
     change_fits _ _ _ checks_passed c.renew_changed-m.ensures (omega (arith, c.if-count-m.false, c.count.ensures, still_long))
     c.set_edge.ensures

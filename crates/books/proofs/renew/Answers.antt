@@ -6,15 +6,21 @@ use Rattle.books.proofs.renew.Goals as goal
 
 pub renew_tiny-requires : goal.renew_tiny-requires
 renew_tiny-requires c =
-    let known : Accepted (masks c.args.rows.now) (asked c.args.request) × Candidates (masks c.args.rows.now) (asked c.args.request) (mask c.starting-all.result) = (c.requires, c.starting-all.ensures) in
+    let known : Accepted (masks c.args.rows.now) (asked c.args.request) × Candidates (masks c.args.rows.now) (asked c.args.request) (mask c.starting-all.result)
+    =
+    (c.requires, c.starting-all.ensures) in
     known
 
 pub renew_small-requires : goal.renew_small-requires
 renew_small-requires c =
-    let known : Accepted (masks c.args.rows.now) (asked c.args.request) × Candidates (masks c.args.rows.now) (asked c.args.request) (mask c.starting-all.result) = (c.requires, c.starting-all.ensures) in
+    let known : Accepted (masks c.args.rows.now) (asked c.args.request) × Candidates (masks c.args.rows.now) (asked c.args.request) (mask c.starting-all.result)
+    =
+    (c.requires, c.starting-all.ensures) in
     known
 
 pub renew_large-requires : goal.renew_large-requires
 renew_large-requires c =
-    let known : Accepted (masks c.args.rows.now) (asked c.args.request) × Candidates (masks c.args.rows.now) (asked c.args.request) (mask c.starting-all.result) = (c.requires, c.starting-all.ensures) in
+    let known : Accepted (masks c.args.rows.now) (asked c.args.request) × Candidates (masks c.args.rows.now) (asked c.args.request) (mask c.starting-all.result)
+    =
+    (c.requires, c.starting-all.ensures) in
     known

@@ -62,7 +62,9 @@ renew-requires c =
     let room : length (masks c.args.rows.now) ≤ length (masks table) = table_fits table c.requires.0.sized refl in
     let long : c.offset-end.result ≤ length table = offset_fits (length (masks c.args.rows.now)) c.offset-end.result table at_end room in
     let stored_long : length c.copy_changed.new.table ≡ c.offset-end.result = c.copy_changed.auto.table ∙ length-take-le c.offset-end.result table long in
-    let made_graph : masks (take c.offset-end.result (c.copy_changed.new.table ++ (drop c.offset-end.result table))) ≡ changed_graph (masks c.args.rows.now) (change c.args.a c.args.b c.args.adjacent) = ap masks (front_part c.copy_changed.new.table (drop c.offset-end.result table) stored_long) ∙ c.copy_changed.ensures in
+    let made_graph : masks (take c.offset-end.result (c.copy_changed.new.table ++ (drop c.offset-end.result table))) ≡ changed_graph (masks c.args.rows.now)
+    (change c.args.a c.args.b c.args.adjacent) =
+    ap masks (front_part c.copy_changed.new.table (drop c.offset-end.result table) stored_long) ∙ c.copy_changed.ensures in
     rw made_graph (changed_accepted c.requires.0 c.requires.1)
 
 pub returns : goal.returns
@@ -71,5 +73,7 @@ returns c =
     let room : length (masks c.args.rows.now) ≤ length (masks table) = table_fits table c.requires.0.sized refl in
     let long : c.offset-end.result ≤ length table = offset_fits (length (masks c.args.rows.now)) c.offset-end.result table at_end room in
     let stored_long : length c.copy_changed.new.table ≡ c.offset-end.result = c.copy_changed.auto.table ∙ length-take-le c.offset-end.result table long in
-    let made_graph : masks (take c.offset-end.result (c.copy_changed.new.table ++ (drop c.offset-end.result table))) ≡ changed_graph (masks c.args.rows.now) (change c.args.a c.args.b c.args.adjacent) = ap masks (front_part c.copy_changed.new.table (drop c.offset-end.result table) stored_long) ∙ c.copy_changed.ensures in
+    let made_graph : masks (take c.offset-end.result (c.copy_changed.new.table ++ (drop c.offset-end.result table))) ≡ changed_graph (masks c.args.rows.now)
+    (change c.args.a c.args.b c.args.adjacent) =
+    ap masks (front_part c.copy_changed.new.table (drop c.offset-end.result table) stored_long) ∙ c.copy_changed.ensures in
     rw made_graph at c.renew.ensures

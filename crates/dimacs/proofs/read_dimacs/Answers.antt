@@ -12,15 +12,24 @@ read_lines-scan-requires c = table_blank
 
 pub copy-requires : goal.copy-requires
 copy-requires c =
-    let judged : Ends (length (masks c.args.rows.now)) (reading c.args.text.now (length (masks c.args.rows.now))) c.finish-read.result (masks c.read_lines-scan.new.table) = all_read c.args.text.now (masks c.args.rows.now) _ _ (masks c.read_lines-scan.new.table) c.count.ensures c.finish-read.ensures c.read_lines-scan.ensures in
+    let judged : Ends (length (masks c.args.rows.now)) (reading c.args.text.now (length (masks c.args.rows.now))) c.finish-read.result
+    (masks c.read_lines-scan.new.table) =
+    all_read c.args.text.now (masks c.args.rows.now) _ _ (masks c.read_lines-scan.new.table) c.count.ensures c.finish-read.ensures c.read_lines-scan.ensures
+    in
     read_room c.args.text.now (masks c.args.rows.now) _ (masks c.read_lines-scan.new.table) c.in-Read.is judged
 
 pub returns-in-Refused : goal.returns-in-Refused
 returns-in-Refused c =
-    let judged : Ends (length (masks c.args.rows.now)) (reading c.args.text.now (length (masks c.args.rows.now))) c.finish-read.result (masks c.read_lines-scan.new.table) = all_read c.args.text.now (masks c.args.rows.now) _ _ (masks c.read_lines-scan.new.table) c.count.ensures c.finish-read.ensures c.read_lines-scan.ensures in
+    let judged : Ends (length (masks c.args.rows.now)) (reading c.args.text.now (length (masks c.args.rows.now))) c.finish-read.result
+    (masks c.read_lines-scan.new.table) =
+    all_read c.args.text.now (masks c.args.rows.now) _ _ (masks c.read_lines-scan.new.table) c.count.ensures c.finish-read.ensures c.read_lines-scan.ensures
+    in
     read_refused c.args.text.now (masks c.args.rows.now) _ (masks c.read_lines-scan.new.table) c.in-Refused.is judged
 
 pub returns-in-Read : goal.returns-in-Read
 returns-in-Read c =
-    let judged : Ends (length (masks c.args.rows.now)) (reading c.args.text.now (length (masks c.args.rows.now))) c.finish-read.result (masks c.read_lines-scan.new.table) = all_read c.args.text.now (masks c.args.rows.now) _ _ (masks c.read_lines-scan.new.table) c.count.ensures c.finish-read.ensures c.read_lines-scan.ensures in
+    let judged : Ends (length (masks c.args.rows.now)) (reading c.args.text.now (length (masks c.args.rows.now))) c.finish-read.result
+    (masks c.read_lines-scan.new.table) =
+    all_read c.args.text.now (masks c.args.rows.now) _ _ (masks c.read_lines-scan.new.table) c.count.ensures c.finish-read.ensures c.read_lines-scan.ensures
+    in
     read_stored c.args.text.now (masks c.args.rows.now) _ (masks c.read_lines-scan.new.table) _ c.in-Read.is judged c.copy.ensures

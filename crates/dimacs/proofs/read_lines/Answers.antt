@@ -16,7 +16,8 @@ shape_of-table-in-Refused c = c.take_line-step.auto.table ∙ c.loop-at.invarian
 
 pub returns-in-Refused : goal.returns-in-Refused
 returns-in-Refused c =
-    reads_stop c.loop-at.invariant.1 (omega arith) c.line_at-line.ensures _ _ c.in-Refused.is (c.take_line-step.ensures c.loop-at.invariant.1.state c.loop-at.invariant.1.stands)
+    reads_stop c.loop-at.invariant.1 (omega arith) c.line_at-line.ensures _ _ c.in-Refused.is
+    (c.take_line-step.ensures c.loop-at.invariant.1.state c.loop-at.invariant.1.stands)
 
 pub overflow_add-number : goal.overflow_add-number
 overflow_add-number c = omega (arith, c.loop-at.invariant.1.counted, c.well_formed.0.1)
@@ -27,7 +28,8 @@ loop-at-smaller c = omega (arith, c.line_at-line.ensures.more)
 pub loop-at-preserved : goal.loop-at-preserved
 loop-at-preserved c = (
   c.take_line-step.auto.table ∙ c.loop-at.invariant.0,
-  reads_more c.loop-at.invariant.1 (omega arith) c.line_at-line.ensures _ _ c.in-Next.is (c.take_line-step.ensures c.loop-at.invariant.1.state c.loop-at.invariant.1.stands),
+  reads_more c.loop-at.invariant.1 (omega arith) c.line_at-line.ensures _ _ c.in-Next.is
+      (c.take_line-step.ensures c.loop-at.invariant.1.state c.loop-at.invariant.1.stands),
 )
 
 -- ---- the end

@@ -1,5 +1,5 @@
 -- What is written is the answer to what was read: the front of the input, in as many bytes as `answer` says, with room for 4096 sets.
-use Rattle.std.proofs.Common.{◌≡◌, ℕ, List, take, Result, Ok, Err, OnOk, IfSome, None, Some, refl, sym, ap, ap₂, ◌∙◌, subst, length-take-le}
+use Rattle.std.proofs.Common.{◌≡◌, ℕ, List, take, Result, Ok, Err, OnOk, IfSome, None, Some, refl, sym, ap, ap₂, ◌∙◌, subst, length-take-le, arith}
 use Rattle.std.specs.declared.option.Option.{Option}
 use Rattle.std.specs.Io.KnownBytes.{Appends}
 use Rattle.sets.specs.Words.Masks.{count_masks}
@@ -22,12 +22,12 @@ answered_all (Some text) from to front old out r long most slots room (Ok u) l s
 answered_all known from to front old out r long most slots room (Err e) l s h w p = tt
 
 pub slice_bounds-out-end : goal.slice_bounds-out-end
-slice_bounds-out-end g c = writes_fit _ _ c.answer-r.new.out c.answer-r.result c.answer-r.ensures.written
+slice_bounds-out-end g c = omega (arith, writes_fit _ _ c.answer-r.new.out c.answer-r.result c.answer-r.ensures.written)
 
 pub slice_bounds-write_all-end : goal.slice_bounds-write_all-end
 slice_bounds-write_all-end g c =
     let answer = c.answer-r in
-    sym (length-take-le answer.result answer.new.out (writes_fit _ _ answer.new.out answer.result answer.ensures.written))
+    sym (length-take-le _ answer.new.out (omega (arith, writes_fit _ _ answer.new.out answer.result answer.ensures.written)))
 
 pub returns : goal.returns
 returns g c =

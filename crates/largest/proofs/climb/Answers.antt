@@ -68,12 +68,15 @@ shape_of-near-then-is_empty c =
 
 pub loop-size-smaller : goal.loop-size-smaller
 loop-size-smaller c =
-    let more : Holding (masks c.args.rows.now) c.args.k (mask c.args.f) (mask c.holding-found.result) × (c.size-size.result + 1 ≤ Set.size (mask c.holding-found.result)) = c.holding-found.ensures.some (empty_fails c.is_empty.ensures c.if-is_empty.false) in
+    let more : Holding (masks c.args.rows.now) c.args.k (mask c.args.f) (mask c.holding-found.result) ×
+    (c.size-size.result + 1 ≤ Set.size (mask c.holding-found.result)) =
+    c.holding-found.ensures.some (empty_fails c.is_empty.ensures c.if-is_empty.false) in
     omega (arith, more.1, c.loop-size-test.true, c.size.ensures.0, c.size-size.ensures.0)
 
 pub loop-size-preserved : goal.loop-size-preserved
 loop-size-preserved c =
-    let more : Holding (masks c.args.rows.now) c.args.k (mask c.args.f) (mask c.holding-found.result) × (c.size-size.result + 1 ≤ Set.size (mask c.holding-found.result)) = c.holding-found.ensures.some (empty_fails c.is_empty.ensures c.if-is_empty.false) in (
+    let more : Holding (masks c.args.rows.now) c.args.k (mask c.args.f) (mask c.holding-found.result) ×
+    (c.size-size.result + 1 ≤ Set.size (mask c.holding-found.result)) = c.holding-found.ensures.some (empty_fails c.is_empty.ensures c.if-is_empty.false) in (
       more.0,
       c.refill-floor.ensures.0,
       omega (arith, more.1, c.refill-floor.ensures.1),

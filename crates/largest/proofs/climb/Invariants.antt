@@ -10,7 +10,8 @@ use Rattle.largest.specs.Largest.{Holding}
 use Rattle.largest.proofs.climb.Given as goal
 
 abbrev pub invariant-loop-size : goal.invariant-loop-size
-invariant-loop-size l = Holding (masks l.rows) l.k (mask l.f) (mask l.best) × Settled (masks l.rows) (masks l.near) (request l.k l.floor 0) × (l.floor ≤ size (mask l.best))
+invariant-loop-size l = Holding (masks l.rows) l.k (mask l.f) (mask l.best) × Settled (masks l.rows) (masks l.near) (request l.k l.floor 0) ×
+    (l.floor ≤ size (mask l.best))
     × (length l.near ≡ length l.initial.near)
 
 abbrev pub decreases-loop-size : goal.decreases-loop-size

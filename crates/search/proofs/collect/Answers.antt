@@ -21,13 +21,15 @@ offset-end-requires c =
 pub slice_bounds-sort-end : goal.slice_bounds-sort-end
 slice_bounds-sort-end c =
     let room_fits : c.enumerate-m.result ≤ length (masks c.enumerate-m.new.slots) = omega (arith, c.if-room-m.false, c.count-room.ensures) in
-    let end_fits : c.offset-end.result ≤ length c.enumerate-m.new.slots = offset_fits c.enumerate-m.result c.offset-end.result c.enumerate-m.new.slots c.offset-end.ensures room_fits in
+    let end_fits : c.offset-end.result ≤ length c.enumerate-m.new.slots =
+    offset_fits c.enumerate-m.result c.offset-end.result c.enumerate-m.new.slots c.offset-end.ensures room_fits in
     end_fits
 
 pub slice_bounds-sort-end-2 : goal.slice_bounds-sort-end-2
 slice_bounds-sort-end-2 c =
     let room_fits : c.enumerate-m.result ≤ length (masks c.enumerate-m.new.slots) = omega (arith, c.if-room-m.false, c.count-room.ensures) in
-    let end_fits : c.offset-end.result ≤ length c.enumerate-m.new.slots = offset_fits c.enumerate-m.result c.offset-end.result c.enumerate-m.new.slots c.offset-end.ensures room_fits in
+    let end_fits : c.offset-end.result ≤ length c.enumerate-m.new.slots =
+    offset_fits c.enumerate-m.result c.offset-end.result c.enumerate-m.new.slots c.offset-end.ensures room_fits in
     sym (length-take-le _ _ end_fits)
 
 pub shape_of-slots : goal.shape_of-slots
@@ -36,7 +38,8 @@ shape_of-slots c = length_front c.enumerate-m.new.slots c.sort.new.part c.offset
 pub returns : goal.returns
 returns c =
     let room_fits : c.enumerate-m.result ≤ length (masks c.enumerate-m.new.slots) = omega (arith, c.if-room-m.false, c.count-room.ensures) in
-    let end_fits : c.offset-end.result ≤ length c.enumerate-m.new.slots = offset_fits c.enumerate-m.result c.offset-end.result c.enumerate-m.new.slots c.offset-end.ensures room_fits in
+    let end_fits : c.offset-end.result ≤ length c.enumerate-m.new.slots =
+    offset_fits c.enumerate-m.result c.offset-end.result c.enumerate-m.new.slots c.offset-end.ensures room_fits in
     let part : List ℕ = c.sort.new.part in
     let end : ℕ = c.offset-end.result in
     let long : length part ≡ end = c.sort.auto.part ∙ length-take-le end c.enumerate-m.new.slots end_fits in

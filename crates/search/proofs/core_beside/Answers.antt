@@ -8,10 +8,12 @@ use Rattle.search.proofs.core_beside.Goals as goal
 
 pub core_within-core-requires : goal.core_within-core-requires
 core_within-core-requires c =
-    let others : mask c.minus-others.result ≡ minus (full (length (masks c.args.rows.now))) (mask c.args.silent) = c.minus-others.ensures ∙ ap (λ (x : ℕ). minus x (mask c.args.silent)) (c.full.ensures ∙ ap full c.count.ensures) in
+    let others : mask c.minus-others.result ≡ minus (full (length (masks c.args.rows.now))) (mask c.args.silent) =
+    c.minus-others.ensures ∙ ap (λ (x : ℕ). minus x (mask c.args.silent)) (c.full.ensures ∙ ap full c.count.ensures) in
     others_judgeable c.requires others
 
 pub returns : goal.returns
 returns c =
-    let others : mask c.minus-others.result ≡ minus (full (length (masks c.args.rows.now))) (mask c.args.silent) = c.minus-others.ensures ∙ ap (λ (x : ℕ). minus x (mask c.args.silent)) (c.full.ensures ∙ ap full c.count.ensures) in
+    let others : mask c.minus-others.result ≡ minus (full (length (masks c.args.rows.now))) (mask c.args.silent) =
+    c.minus-others.ensures ∙ ap (λ (x : ℕ). minus x (mask c.args.silent)) (c.full.ensures ∙ ap full c.count.ensures) in
     beside_candidates c.requires others c.core_within-core.ensures c.attached.ensures c.join.ensures

@@ -26,12 +26,14 @@ fill-requires c = (
 
 pub branch-rows-requires : goal.branch-rows-requires
 branch-rows-requires c =
-    let raised : c.args.q + c.size.result ≡ c.args.q + size (bit_and (mask c.args.s) (mask c.args.silent)) = ap (λ (n : ℕ). c.args.q + n) (c.size.ensures.0 ∙ ap size c.meet.ensures) in
+    let raised : c.args.q + c.size.result ≡ c.args.q + size (bit_and (mask c.args.s) (mask c.args.silent)) =
+    ap (λ (n : ℕ). c.args.q + n) (c.size.ensures.0 ∙ ap size c.meet.ensures) in
     let pairs = start_pairs c.requires.candidates c.minus.ensures in
     let table = c.fill.ensures _ pairs in
     start_branching c.requires raised (rw table.long (table_fits _ c.requires.accepted.sized refl)) table.near
 
 pub returns : goal.returns
 returns c =
-    let raised : c.args.q + c.size.result ≡ c.args.q + size (bit_and (mask c.args.s) (mask c.args.silent)) = ap (λ (n : ℕ). c.args.q + n) (c.size.ensures.0 ∙ ap size c.meet.ensures) in
+    let raised : c.args.q + c.size.result ≡ c.args.q + size (bit_and (mask c.args.s) (mask c.args.silent)) =
+    ap (λ (n : ℕ). c.args.q + n) (c.size.ensures.0 ∙ ap size c.meet.ensures) in
     start_lowered c.requires raised c.branch-rows.ensures

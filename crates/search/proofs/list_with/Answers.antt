@@ -20,18 +20,23 @@ starting-all-requires c = accepted_holds _ _ (none_holds _ _ c.check_request-che
 
 pub collect-m-requires : goal.collect-m-requires
 collect-m-requires c =
-    let checks_passed : first_cause (request_check (masks c.args.rows.now) (asked c.args.request)) passed ≡ passed = none_holds _ _ c.check_request-checked.ensures c.in_default.is in
+    let checks_passed : first_cause (request_check (masks c.args.rows.now) (asked c.args.request)) passed ≡ passed =
+    none_holds _ _ c.check_request-checked.ensures c.in_default.is in
     (accepted_holds _ _ checks_passed, c.starting-all.ensures)
 
 pub returns-then-count-m : goal.returns-then-count-m
 returns-then-count-m c =
-    let checks_passed : first_cause (request_check (masks c.args.rows.now) (asked c.args.request)) passed ≡ passed = none_holds _ _ c.check_request-checked.ensures c.in_default.is in
-    let still_long : length (masks c.collect-m.new.slots) ≡ length (masks c.args.slots.now) = omega (arith, count_masks c.collect-m.new.slots, count_masks c.args.slots.now, c.collect-m.auto.slots) in
+    let checks_passed : first_cause (request_check (masks c.args.rows.now) (asked c.args.request)) passed ≡ passed =
+    none_holds _ _ c.check_request-checked.ensures c.in_default.is in
+    let still_long : length (masks c.collect-m.new.slots) ≡ length (masks c.args.slots.now) =
+    omega (arith, count_masks c.collect-m.new.slots, count_masks c.args.slots.now, c.collect-m.auto.slots) in
     list_short _ _ checks_passed c.collect-m.ensures (omega (arith, c.if-count-m.true, c.count.ensures, still_long))
     (c.clear.ensures ∙ ap (λ (n : ℕ). replicate n 0) still_long)
 
 pub returns : goal.returns
 returns c =
-    let checks_passed : first_cause (request_check (masks c.args.rows.now) (asked c.args.request)) passed ≡ passed = none_holds _ _ c.check_request-checked.ensures c.in_default.is in
-    let still_long : length (masks c.collect-m.new.slots) ≡ length (masks c.args.slots.now) = omega (arith, count_masks c.collect-m.new.slots, count_masks c.args.slots.now, c.collect-m.auto.slots) in
+    let checks_passed : first_cause (request_check (masks c.args.rows.now) (asked c.args.request)) passed ≡ passed =
+    none_holds _ _ c.check_request-checked.ensures c.in_default.is in
+    let still_long : length (masks c.collect-m.new.slots) ≡ length (masks c.args.slots.now) =
+    omega (arith, count_masks c.collect-m.new.slots, count_masks c.args.slots.now, c.collect-m.auto.slots) in
     list_fits _ _ checks_passed c.collect-m.ensures (omega (arith, c.if-count-m.false, c.count.ensures, still_long))

@@ -15,25 +15,30 @@ returns-in-Failed c = front_refused (heading_causes _) _ passed c.check_heading-
 
 pub field-n-requires : goal.field-n-requires
 field-n-requires c =
-    let accepted : first_cause (heading_causes c.args.text.now) passed ≡ passed = none_holds (heading_causes c.args.text.now) _ c.check_heading-checked.ensures c.in_default.is in
+    let accepted : first_cause (heading_causes c.args.text.now) passed ≡ passed =
+    none_holds (heading_causes c.args.text.now) _ c.check_heading-checked.ensures c.in_default.is in
     field_right c.args.text.now accepted (omega arith)
 
 pub slice_bounds-check_body-count : goal.slice_bounds-check_body-count
 slice_bounds-check_body-count c =
-    let accepted : first_cause (heading_causes c.args.text.now) passed ≡ passed = none_holds (heading_causes c.args.text.now) _ c.check_heading-checked.ensures c.in_default.is in
+    let accepted : first_cause (heading_causes c.args.text.now) passed ≡ passed =
+    none_holds (heading_causes c.args.text.now) _ c.check_heading-checked.ensures c.in_default.is in
     heading_fits c.args.text.now accepted
 
 pub slice_bounds-check_body-start : goal.slice_bounds-check_body-start
 slice_bounds-check_body-start c =
-    let accepted : first_cause (heading_causes c.args.text.now) passed ≡ passed = none_holds (heading_causes c.args.text.now) _ c.check_heading-checked.ensures c.in_default.is in
+    let accepted : first_cause (heading_causes c.args.text.now) passed ≡ passed =
+    none_holds (heading_causes c.args.text.now) _ c.check_heading-checked.ensures c.in_default.is in
     heading_fits c.args.text.now accepted
 
 pub check_body-requires : goal.check_body-requires
 check_body-requires c =
-    let accepted : first_cause (heading_causes c.args.text.now) passed ≡ passed = none_holds (heading_causes c.args.text.now) _ c.check_heading-checked.ensures c.in_default.is in
+    let accepted : first_cause (heading_causes c.args.text.now) passed ≡ passed =
+    none_holds (heading_causes c.args.text.now) _ c.check_heading-checked.ensures c.in_default.is in
     vertices_read c.args.text.now accepted c.field-n.ensures
 
 pub returns : goal.returns
 returns c =
-    let accepted : first_cause (heading_causes c.args.text.now) passed ≡ passed = none_holds (heading_causes c.args.text.now) _ c.check_heading-checked.ensures c.in_default.is in
+    let accepted : first_cause (heading_causes c.args.text.now) passed ≡ passed =
+    none_holds (heading_causes c.args.text.now) _ c.check_heading-checked.ensures c.in_default.is in
     body_judged c.args.text.now accepted c.field-n.ensures c.check_body.ensures

@@ -21,23 +21,27 @@ returns-in-Failed c = sheet_refused c.in-Failed.is c.check_sheet-checked.ensures
 
 pub field-n-requires : goal.field-n-requires
 field-n-requires c =
-    let accepted : first_cause (sheet_causes c.args.text.now) passed ≡ passed = none_holds (sheet_causes c.args.text.now) _ c.check_sheet-checked.ensures c.in_default.is in
+    let accepted : first_cause (sheet_causes c.args.text.now) passed ≡ passed =
+    none_holds (sheet_causes c.args.text.now) _ c.check_sheet-checked.ensures c.in_default.is in
     field_right c.args.text.now (passed_heading c.args.text.now accepted) (omega arith)
 
 pub returns-then-count-n : goal.returns-then-count-n
 returns-then-count-n c =
-    let accepted : first_cause (sheet_causes c.args.text.now) passed ≡ passed = none_holds (sheet_causes c.args.text.now) _ c.check_sheet-checked.ensures c.in_default.is in
+    let accepted : first_cause (sheet_causes c.args.text.now) passed ≡ passed =
+    none_holds (sheet_causes c.args.text.now) _ c.check_sheet-checked.ensures c.in_default.is in
     room_refused c.args.text.now accepted c.field-n.ensures (omega (arith, c.count.ensures))
 
 pub slice_bounds-store_rows-count : goal.slice_bounds-store_rows-count
 slice_bounds-store_rows-count c =
-    let accepted : first_cause (sheet_causes c.args.text.now) passed ≡ passed = none_holds (sheet_causes c.args.text.now) _ c.check_sheet-checked.ensures c.in_default.is in
+    let accepted : first_cause (sheet_causes c.args.text.now) passed ≡ passed =
+    none_holds (sheet_causes c.args.text.now) _ c.check_sheet-checked.ensures c.in_default.is in
     let heading_long : heading_length ≤ length c.args.text.now = heading_fits c.args.text.now (passed_heading c.args.text.now accepted) in
     heading_long
 
 pub slice_bounds-store_rows-start : goal.slice_bounds-store_rows-start
 slice_bounds-store_rows-start c =
-    let accepted : first_cause (sheet_causes c.args.text.now) passed ≡ passed = none_holds (sheet_causes c.args.text.now) _ c.check_sheet-checked.ensures c.in_default.is in
+    let accepted : first_cause (sheet_causes c.args.text.now) passed ≡ passed =
+    none_holds (sheet_causes c.args.text.now) _ c.check_sheet-checked.ensures c.in_default.is in
     let heading_long : heading_length ≤ length c.args.text.now = heading_fits c.args.text.now (passed_heading c.args.text.now accepted) in
     heading_long
 
@@ -55,19 +59,22 @@ slice_bounds-store_rows-end-3 c =
 
 pub store_rows-requires : goal.store_rows-requires
 store_rows-requires c =
-    let accepted : first_cause (sheet_causes c.args.text.now) passed ≡ passed = none_holds (sheet_causes c.args.text.now) _ c.check_sheet-checked.ensures c.in_default.is in
+    let accepted : first_cause (sheet_causes c.args.text.now) passed ≡ passed =
+    none_holds (sheet_causes c.args.text.now) _ c.check_sheet-checked.ensures c.in_default.is in
     let room : c.field-n.result ≤ length (masks c.args.rows.now) = omega (arith, c.count.ensures) in
     let lines = lines_read c.args.text.now accepted c.field-n.ensures in
     taken_lines c.field-n.result c.offset-end.ensures c.args.rows.now (lent_body c.args.text.now) room lines
 
 pub read_request-requires : goal.read_request-requires
 read_request-requires c =
-    let accepted : first_cause (sheet_causes c.args.text.now) passed ≡ passed = none_holds (sheet_causes c.args.text.now) _ c.check_sheet-checked.ensures c.in_default.is in
+    let accepted : first_cause (sheet_causes c.args.text.now) passed ≡ passed =
+    none_holds (sheet_causes c.args.text.now) _ c.check_sheet-checked.ensures c.in_default.is in
     accepted
 
 pub returns : goal.returns
 returns c =
-    let accepted : first_cause (sheet_causes c.args.text.now) passed ≡ passed = none_holds (sheet_causes c.args.text.now) _ c.check_sheet-checked.ensures c.in_default.is in
+    let accepted : first_cause (sheet_causes c.args.text.now) passed ≡ passed =
+    none_holds (sheet_causes c.args.text.now) _ c.check_sheet-checked.ensures c.in_default.is in
     let room : c.field-n.result ≤ length (masks c.args.rows.now) = omega (arith, c.count.ensures) in
     rows_read c.args.text.now accepted c.field-n.ensures c.read_request.ensures c.args.rows.now c.store_rows.new.rows
     c.offset-end.ensures room c.store_rows.auto.rows c.store_rows.ensures

@@ -17,7 +17,8 @@ bounds-out-3 c = simp length-set (omega arith)
 pub shape_of-out : goal.shape_of-out
 shape_of-out c =
     writes_length (refusal_written (number_of c.args.refusal) (value_of c.args.refusal) c.args.out.now c.requires c.number-number.ensures
-    c.decimal.ensures c.decimal-2.ensures c.value.ensures c.write_line.ensures) (omega (arith, refusal_length_lem (number_of c.args.refusal) (value_of c.args.refusal), c.requires))
+    c.decimal.ensures c.decimal-2.ensures c.value.ensures c.write_line.ensures)
+    (omega (arith, refusal_length_lem (number_of c.args.refusal) (value_of c.args.refusal), c.requires))
 
 pub returns : goal.returns
 returns c =

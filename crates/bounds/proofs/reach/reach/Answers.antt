@@ -14,7 +14,8 @@ lowest-w-requires c = walk_goes_on c.is_empty.ensures c.loop-left-test.true-raw
 
 pub get-requires : goal.get-requires
 get-requires c =
-    let vertex : c.lowest-w.result < length (masks c.args.rows.now) = walk_below (c.requires.0.low _ c.requires.1) c.loop-left.invariant.two.part c.lowest-w.ensures in
+    let vertex : c.lowest-w.result < length (masks c.args.rows.now) =
+    walk_below (c.requires.0.low _ c.requires.1) c.loop-left.invariant.two.part c.lowest-w.ensures in
     vertex
 
 pub loop-left-smaller : goal.loop-left-smaller
@@ -22,7 +23,8 @@ loop-left-smaller c = walk_falls c.lowest-w.ensures c.rest-left.ensures
 
 pub loop-left-preserved : goal.loop-left-preserved
 loop-left-preserved c =
-    let vertex : c.lowest-w.result < length (masks c.args.rows.now) = walk_below (c.requires.0.low _ c.requires.1) c.loop-left.invariant.two.part c.lowest-w.ensures in
+    let vertex : c.lowest-w.result < length (masks c.args.rows.now) =
+    walk_below (c.requires.0.low _ c.requires.1) c.loop-left.invariant.two.part c.lowest-w.ensures in
     rw (c.rest-left.ensures, c.join-found.ensures, c.get.ensures)
     (reaching_next c.requires.0 vertex c.loop-left.invariant c.lowest-w.ensures)
 

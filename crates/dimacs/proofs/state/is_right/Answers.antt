@@ -13,4 +13,5 @@ returns-then-not-is_between-2 c = sym (ap not (wrong_second _ _ _ (not_accepted 
 
 pub returns : goal.returns
 returns c =
-    sym (ap not (wrong_same _ _ _ (accepted _ _ c.is_between.ensures c.if-not-is_between.false-raw) (accepted _ _ c.is_between-2.ensures c.if-not-is_between-2.false-raw)))
+    sym (ap not (wrong_same _ _ _ (accepted _ _ c.is_between.ensures c.if-not-is_between.false-raw)
+    (accepted _ _ c.is_between-2.ensures c.if-not-is_between-2.false-raw)))

@@ -11,16 +11,19 @@ use Rattle.judging.proofs.check.check_floor.Goals as goal
 pub returns-in-Failed : goal.returns-in-Failed
 unfolding floor_check
 returns-in-Failed c =
-    let numbers : checked_reply c.check_numbers-checked.result ≡ first_cause (number_check (length (masks c.args.rows.now)) c.args.slack c.args.floor) passed = rw (← c.count.ensures) c.check_numbers-checked.ensures in
+    let numbers : checked_reply c.check_numbers-checked.result ≡ first_cause (number_check (length (masks c.args.rows.now)) c.args.slack c.args.floor) passed =
+    rw (← c.count.ensures) c.check_numbers-checked.ensures in
     front_refused (number_check _ _ _) _ passed numbers c.in-Failed.is
 
 pub check_edges-requires : goal.check_edges-requires
 check_edges-requires c =
-    let numbers : checked_reply c.check_numbers-checked.result ≡ first_cause (number_check (length (masks c.args.rows.now)) c.args.slack c.args.floor) passed = rw (← c.count.ensures) c.check_numbers-checked.ensures in
+    let numbers : checked_reply c.check_numbers-checked.result ≡ first_cause (number_check (length (masks c.args.rows.now)) c.args.slack c.args.floor) passed =
+    rw (← c.count.ensures) c.check_numbers-checked.ensures in
     numbers_sized _ _ _ (none_holds (number_check _ _ _) _ numbers c.in_default.is)
 
 pub returns : goal.returns
 unfolding floor_check
 returns c =
-    let numbers : checked_reply c.check_numbers-checked.result ≡ first_cause (number_check (length (masks c.args.rows.now)) c.args.slack c.args.floor) passed = rw (← c.count.ensures) c.check_numbers-checked.ensures in
+    let numbers : checked_reply c.check_numbers-checked.result ≡ first_cause (number_check (length (masks c.args.rows.now)) c.args.slack c.args.floor) passed =
+    rw (← c.count.ensures) c.check_numbers-checked.ensures in
     c.check_edges.ensures ∙ sym (front_accepted (number_check _ _ _) _ passed numbers c.in_default.is)

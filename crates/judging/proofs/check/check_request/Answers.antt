@@ -11,16 +11,22 @@ use Rattle.judging.proofs.check.check_request.Goals as goal
 pub returns-in-Failed : goal.returns-in-Failed
 unfolding request_check
 returns-in-Failed c =
-    let numbers : checked_reply c.check_numbers-checked.result ≡ first_cause (number_check (length (masks c.args.rows.now)) c.args.request.slack c.args.request.floor) passed = rw (← c.count.ensures) c.check_numbers-checked.ensures in
+    let numbers : checked_reply c.check_numbers-checked.result ≡ first_cause
+    (number_check (length (masks c.args.rows.now)) c.args.request.slack c.args.request.floor) passed =
+    rw (← c.count.ensures) c.check_numbers-checked.ensures in
     front_refused (number_check _ _ _) _ passed numbers c.in-Failed.is
 
 pub check_silent-requires : goal.check_silent-requires
 check_silent-requires c =
-    let numbers : checked_reply c.check_numbers-checked.result ≡ first_cause (number_check (length (masks c.args.rows.now)) c.args.request.slack c.args.request.floor) passed = rw (← c.count.ensures) c.check_numbers-checked.ensures in
+    let numbers : checked_reply c.check_numbers-checked.result ≡ first_cause
+    (number_check (length (masks c.args.rows.now)) c.args.request.slack c.args.request.floor) passed =
+    rw (← c.count.ensures) c.check_numbers-checked.ensures in
     numbers_sized _ _ _ (none_holds (number_check _ _ _) _ numbers c.in_default.is)
 
 pub returns : goal.returns
 unfolding request_check
 returns c =
-    let numbers : checked_reply c.check_numbers-checked.result ≡ first_cause (number_check (length (masks c.args.rows.now)) c.args.request.slack c.args.request.floor) passed = rw (← c.count.ensures) c.check_numbers-checked.ensures in
+    let numbers : checked_reply c.check_numbers-checked.result ≡ first_cause
+    (number_check (length (masks c.args.rows.now)) c.args.request.slack c.args.request.floor) passed =
+    rw (← c.count.ensures) c.check_numbers-checked.ensures in
     c.check_silent.ensures ∙ sym (front_accepted (number_check _ _ _) _ passed numbers c.in_default.is)

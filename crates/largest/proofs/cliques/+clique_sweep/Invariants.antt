@@ -8,7 +8,8 @@ use Rattle.largest.specs.SeekLaws.{Swept}
 use Rattle.largest.proofs.cliques.+clique_sweep.Given as goal
 
 abbrev pub invariant-sweep-loop-s : goal.invariant-sweep-loop-s
-invariant-sweep-loop-s l = Swept (masks l.rows) (request 1 l.q 0) l.have (mask l.s) (mask l.initial.waiting) (mask l.initial.left) (mask l.waiting) (mask l.left)
+invariant-sweep-loop-s l = Swept (masks l.rows) (request 1 l.q 0) l.have (mask l.s) (mask l.initial.waiting) (mask l.initial.left) (mask l.waiting)
+    (mask l.left)
 
 abbrev pub decreases-sweep-loop-s : goal.decreases-sweep-loop-s
 decreases-sweep-loop-s l = mask l.left

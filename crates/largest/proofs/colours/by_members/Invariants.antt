@@ -7,7 +7,8 @@ use Rattle.largest.specs.Colour.{Shared}
 use Rattle.largest.proofs.colours.by_members.Given as goal
 
 abbrev pub invariant-loop-s : goal.invariant-loop-s
-invariant-loop-s l = ((n : ℕ) × Shared (masks l.rows) l.k (mask l.s) (mask l.initial.left) n (mask l.left) × (l.most ≡ size (mask l.s) + n)) × Sub (mask l.todo) (mask l.s)
+invariant-loop-s l = ((n : ℕ) × Shared (masks l.rows) l.k (mask l.s) (mask l.initial.left) n (mask l.left) × (l.most ≡ size (mask l.s) + n)) × Sub (mask l.todo)
+    (mask l.s)
 
 abbrev pub decreases-loop-s : goal.decreases-loop-s
 decreases-loop-s l = mask l.todo

@@ -17,17 +17,20 @@ overflow_sub-few c = omega (arith, c.requires.0.slack.0)
 
 pub candidates-all-requires : goal.candidates-all-requires
 candidates-all-requires c =
-    let settled : Settled (masks c.args.rows.now) (masks c.args.near.now) (request c.args.k c.size-q.result 0) = settled_higher (omega (arith, c.size-q.ensures.0)) c.size-q.ensures.1 c.requires.0 in
+    let settled : Settled (masks c.args.rows.now) (masks c.args.near.now) (request c.args.k c.size-q.result 0) =
+    settled_higher (omega (arith, c.size-q.ensures.0)) c.size-q.ensures.1 c.requires.0 in
     settled_searchable settled
 
 pub fit-left-requires : goal.fit-left-requires
 fit-left-requires c =
-    let settled : Settled (masks c.args.rows.now) (masks c.args.near.now) (request c.args.k c.size-q.result 0) = settled_higher (omega (arith, c.size-q.ensures.0)) c.size-q.ensures.1 c.requires.0 in
+    let settled : Settled (masks c.args.rows.now) (masks c.args.near.now) (request c.args.k c.size-q.result 0) =
+    settled_higher (omega (arith, c.size-q.ensures.0)) c.size-q.ensures.1 c.requires.0 in
     (settled, c.candidates-all.ensures, c.requires.1)
 
 pub loop-s-init : goal.loop-s-init
 loop-s-init c =
-    let settled : Settled (masks c.args.rows.now) (masks c.args.near.now) (request c.args.k c.size-q.result 0) = settled_higher (omega (arith, c.size-q.ensures.0)) c.size-q.ensures.1 c.requires.0 in
+    let settled : Settled (masks c.args.rows.now) (masks c.args.near.now) (request c.args.k c.size-q.result 0) =
+    settled_higher (omega (arith, c.size-q.ensures.0)) c.size-q.ensures.1 c.requires.0 in
     lowering_none settled c.fit-left.ensures c.requires.2 c.size-q.ensures.0
 
 pub highest-h-requires : goal.highest-h-requires

@@ -18,28 +18,33 @@ use Rattle.largest.proofs.seek.+find.Goals as goal
 -- ---- the needs
 pub is_short-requires : goal.is_short-requires
 is_short-requires t c =
-    let whole : Whole (masks c.args.rows.now) (masks c.args.near.now) (request c.args.k c.args.q 0) (mask c.args.s) (mask c.args.c) (mask c.join-a.result) = record { ready = c.requires.0; whole = c.join-a.ensures } in
+    let whole : Whole (masks c.args.rows.now) (masks c.args.near.now) (request c.args.k c.args.q 0) (mask c.args.s) (mask c.args.c) (mask c.join-a.result) =
+    record { ready = c.requires.0; whole = c.join-a.ensures } in
     whole_between whole
 
 pub returns-then-is_short : goal.returns-then-is_short
 returns-then-is_short t c =
-    let whole : Whole (masks c.args.rows.now) (masks c.args.near.now) (request c.args.k c.args.q 0) (mask c.args.s) (mask c.args.c) (mask c.join-a.result) = record { ready = c.requires.0; whole = c.join-a.ensures } in
+    let whole : Whole (masks c.args.rows.now) (masks c.args.near.now) (request c.args.k c.args.q 0) (mask c.args.s) (mask c.args.c) (mask c.join-a.result) =
+    record { ready = c.requires.0; whole = c.join-a.ensures } in
     sought_short whole (c.is_short.ensures.0 c.if-is_short.true) c.empty.ensures
 
 pub survey-seen-requires : goal.survey-seen-requires
 survey-seen-requires t c =
-    let whole : Whole (masks c.args.rows.now) (masks c.args.near.now) (request c.args.k c.args.q 0) (mask c.args.s) (mask c.args.c) (mask c.join-a.result) = record { ready = c.requires.0; whole = c.join-a.ensures } in
+    let whole : Whole (masks c.args.rows.now) (masks c.args.near.now) (request c.args.k c.args.q 0) (mask c.args.s) (mask c.args.c) (mask c.join-a.result) =
+    record { ready = c.requires.0; whole = c.join-a.ensures } in
     whole_inside whole
 
 pub returns-then-seen-k : goal.returns-then-seen-k
 returns-then-seen-k t c =
-    let whole : Whole (masks c.args.rows.now) (masks c.args.near.now) (request c.args.k c.args.q 0) (mask c.args.s) (mask c.args.c) (mask c.join-a.result) = record { ready = c.requires.0; whole = c.join-a.ensures } in
+    let whole : Whole (masks c.args.rows.now) (masks c.args.near.now) (request c.args.k c.args.q 0) (mask c.args.s) (mask c.args.c) (mask c.join-a.result) =
+    record { ready = c.requires.0; whole = c.join-a.ensures } in
     let large = c.is_short.ensures.1 c.if-is_short.false in
     sought_leaf whole (finds_plex c.survey-seen.ensures c.if-seen-k.true) large c.requires.1
 
 pub among-from-requires : goal.among-from-requires
 among-from-requires t c =
-    let whole : Whole (masks c.args.rows.now) (masks c.args.near.now) (request c.args.k c.args.q 0) (mask c.args.s) (mask c.args.c) (mask c.join-a.result) = record { ready = c.requires.0; whole = c.join-a.ensures } in
+    let whole : Whole (masks c.args.rows.now) (masks c.args.near.now) (request c.args.k c.args.q 0) (mask c.args.s) (mask c.args.c) (mask c.join-a.result) =
+    record { ready = c.requires.0; whole = c.join-a.ensures } in
     let inside = whole_inside whole in
     record {
       vertex = in_below _ _ _ inside.below (c.survey-seen.ensures.reached (omega (arith, c.if-seen-k.false))).0;
@@ -48,7 +53,8 @@ among-from-requires t c =
 
 pub returns-then-is_empty : goal.returns-then-is_empty
 returns-then-is_empty t c =
-    let whole : Whole (masks c.args.rows.now) (masks c.args.near.now) (request c.args.k c.args.q 0) (mask c.args.s) (mask c.args.c) (mask c.join-a.result) = record { ready = c.requires.0; whole = c.join-a.ensures } in
+    let whole : Whole (masks c.args.rows.now) (masks c.args.near.now) (request c.args.k c.args.q 0) (mask c.args.s) (mask c.args.c) (mask c.join-a.result) =
+    record { ready = c.requires.0; whole = c.join-a.ensures } in
     let worst = c.survey-seen.ensures.reached (omega (arith, c.if-seen-k.false)) in
     sought_stuck whole _ worst.0 (omega (arith, worst.1, c.if-seen-k.false))
     (c.among-from.ensures.none (eqb-true _ _ (sym c.is_empty.ensures ∙ c.if-is_empty.true))) c.empty-then-is_empty.ensures

@@ -15,10 +15,12 @@ full-all-requires c = (omega (arith, c.count.ensures, c.requires.0.sized.some), 
 
 pub fill-requires : goal.fill-requires
 fill-requires c =
-    let whole : Candidates (masks c.args.rows.now) (request c.args.k 0 0) (mask c.full-all.result) = all_candidates (c.full-all.ensures ∙ ap full c.count.ensures) in
+    let whole : Candidates (masks c.args.rows.now) (request c.args.k 0 0) (mask c.full-all.result) =
+    all_candidates (c.full-all.ensures ∙ ap full c.count.ensures) in
     (c.requires.1, start_pairing whole (sym (minus_none _)) c.requires.0, (λ e. absurd (true_is_not_false (sym e))))
 
 pub returns : goal.returns
 returns c =
-    let whole : Candidates (masks c.args.rows.now) (request c.args.k 0 0) (mask c.full-all.result) = all_candidates (c.full-all.ensures ∙ ap full c.count.ensures) in
+    let whole : Candidates (masks c.args.rows.now) (request c.args.k 0 0) (mask c.full-all.result) =
+    all_candidates (c.full-all.ensures ∙ ap full c.count.ensures) in
     filled_settled c.requires.0 c.requires.1.room (c.fill.ensures 0 (start_pairs whole (sym (minus_none _))))

@@ -123,7 +123,8 @@ branch-others-requires t c =
     let next : c.args.q + c.indicator.result ≡ c.args.q + sets.bit (mask c.args.silent) c.pick-v.result = ap (λ (n : ℕ). c.args.q + n) c.indicator.ensures in
     let beside : Beside (masks c.args.rows.now) (lowered c.args.k c.args.q (mask c.args.silent) (mask c.args.s)) (mask c.args.s) (mask c.args.c)
     c.pick-v.result (mask c.beside-close.result) = c.beside-close.ensures _ refl c.requires.ready.settled.near in
-    let split : Split (masks c.args.rows.now) (masks c.args.near.now) (lowered c.args.k c.args.q (mask c.args.silent) (mask c.args.s)) (mask c.args.s) (mask c.args.c)
+    let split : Split (masks c.args.rows.now) (masks c.args.near.now) (lowered c.args.k c.args.q (mask c.args.silent) (mask c.args.s)) (mask c.args.s)
+    (mask c.args.c)
     c.pick-v.result (mask c.sift-kept.result) (mask c.without-rest.result) = let floor = next_floor c.requires _ member next in
     record {
       ready = c.requires.ready;
@@ -139,7 +140,8 @@ is_bounded-requires t c =
     let next : c.args.q + c.indicator.result ≡ c.args.q + sets.bit (mask c.args.silent) c.pick-v.result = ap (λ (n : ℕ). c.args.q + n) c.indicator.ensures in
     let beside : Beside (masks c.args.rows.now) (lowered c.args.k c.args.q (mask c.args.silent) (mask c.args.s)) (mask c.args.s) (mask c.args.c)
     c.pick-v.result (mask c.beside-close.result) = c.beside-close.ensures _ refl c.requires.ready.settled.near in
-    let split : Split (masks c.args.rows.now) (masks c.args.near.now) (lowered c.args.k c.args.q (mask c.args.silent) (mask c.args.s)) (mask c.args.s) (mask c.args.c)
+    let split : Split (masks c.args.rows.now) (masks c.args.near.now) (lowered c.args.k c.args.q (mask c.args.silent) (mask c.args.s)) (mask c.args.s)
+    (mask c.args.c)
     c.pick-v.result (mask c.sift-kept.result) (mask c.without-rest.result) = let floor = next_floor c.requires _ member next in
     record {
       ready = c.requires.ready;
@@ -155,7 +157,8 @@ returns-then-is_bounded t c =
     let next : c.args.q + c.indicator.result ≡ c.args.q + sets.bit (mask c.args.silent) c.pick-v.result = ap (λ (n : ℕ). c.args.q + n) c.indicator.ensures in
     let beside : Beside (masks c.args.rows.now) (lowered c.args.k c.args.q (mask c.args.silent) (mask c.args.s)) (mask c.args.s) (mask c.args.c)
     c.pick-v.result (mask c.beside-close.result) = c.beside-close.ensures _ refl c.requires.ready.settled.near in
-    let split : Split (masks c.args.rows.now) (masks c.args.near.now) (lowered c.args.k c.args.q (mask c.args.silent) (mask c.args.s)) (mask c.args.s) (mask c.args.c)
+    let split : Split (masks c.args.rows.now) (masks c.args.near.now) (lowered c.args.k c.args.q (mask c.args.silent) (mask c.args.s)) (mask c.args.s)
+    (mask c.args.c)
     c.pick-v.result (mask c.sift-kept.result) (mask c.without-rest.result) = let floor = next_floor c.requires _ member next in
     record {
       ready = c.requires.ready;
@@ -172,7 +175,8 @@ with-joined-requires t c =
     let next : c.args.q + c.indicator.result ≡ c.args.q + sets.bit (mask c.args.silent) c.pick-v.result = ap (λ (n : ℕ). c.args.q + n) c.indicator.ensures in
     let beside : Beside (masks c.args.rows.now) (lowered c.args.k c.args.q (mask c.args.silent) (mask c.args.s)) (mask c.args.s) (mask c.args.c)
     c.pick-v.result (mask c.beside-close.result) = c.beside-close.ensures _ refl c.requires.ready.settled.near in
-    let split : Split (masks c.args.rows.now) (masks c.args.near.now) (lowered c.args.k c.args.q (mask c.args.silent) (mask c.args.s)) (mask c.args.s) (mask c.args.c)
+    let split : Split (masks c.args.rows.now) (masks c.args.near.now) (lowered c.args.k c.args.q (mask c.args.silent) (mask c.args.s)) (mask c.args.s)
+    (mask c.args.c)
     c.pick-v.result (mask c.sift-kept.result) (mask c.without-rest.result) = let floor = next_floor c.requires _ member next in
     record {
       ready = c.requires.ready;
@@ -188,7 +192,8 @@ branch-rows-requires t c =
     let next : c.args.q + c.indicator.result ≡ c.args.q + sets.bit (mask c.args.silent) c.pick-v.result = ap (λ (n : ℕ). c.args.q + n) c.indicator.ensures in
     let beside : Beside (masks c.args.rows.now) (lowered c.args.k c.args.q (mask c.args.silent) (mask c.args.s)) (mask c.args.s) (mask c.args.c)
     c.pick-v.result (mask c.beside-close.result) = c.beside-close.ensures _ refl c.requires.ready.settled.near in
-    let split : Split (masks c.args.rows.now) (masks c.args.near.now) (lowered c.args.k c.args.q (mask c.args.silent) (mask c.args.s)) (mask c.args.s) (mask c.args.c)
+    let split : Split (masks c.args.rows.now) (masks c.args.near.now) (lowered c.args.k c.args.q (mask c.args.silent) (mask c.args.s)) (mask c.args.s)
+    (mask c.args.c)
     c.pick-v.result (mask c.sift-kept.result) (mask c.without-rest.result) = let floor = next_floor c.requires _ member next in
     record {
       ready = c.requires.ready;
@@ -206,7 +211,8 @@ returns t c =
     let next : c.args.q + c.indicator.result ≡ c.args.q + sets.bit (mask c.args.silent) c.pick-v.result = ap (λ (n : ℕ). c.args.q + n) c.indicator.ensures in
     let beside : Beside (masks c.args.rows.now) (lowered c.args.k c.args.q (mask c.args.silent) (mask c.args.s)) (mask c.args.s) (mask c.args.c)
     c.pick-v.result (mask c.beside-close.result) = c.beside-close.ensures _ refl c.requires.ready.settled.near in
-    let split : Split (masks c.args.rows.now) (masks c.args.near.now) (lowered c.args.k c.args.q (mask c.args.silent) (mask c.args.s)) (mask c.args.s) (mask c.args.c)
+    let split : Split (masks c.args.rows.now) (masks c.args.near.now) (lowered c.args.k c.args.q (mask c.args.silent) (mask c.args.s)) (mask c.args.s)
+    (mask c.args.c)
     c.pick-v.result (mask c.sift-kept.result) (mask c.without-rest.result) = let floor = next_floor c.requires _ member next in
     record {
       ready = c.requires.ready;

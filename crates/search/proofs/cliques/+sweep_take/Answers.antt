@@ -110,14 +110,16 @@ take-rest-requires t c = c.lowest-v.ensures
 
 pub take-end_pair-requires : goal.take-end_pair-requires
 take-end_pair-requires t c =
-    let two : (mask c.args.c ≡ with (2 ^ c.lowest-u.result) c.lowest-v.result) × (c.lowest-u.result ≢ c.lowest-v.result) = two_left c.lowest-u.ensures c.rest-second.ensures c.lowest-v.ensures c.rest.ensures
+    let two : (mask c.args.c ≡ with (2 ^ c.lowest-u.result) c.lowest-v.result) × (c.lowest-u.result ≢ c.lowest-v.result) = two_left c.lowest-u.ensures
+    c.rest-second.ensures c.lowest-v.ensures c.rest.ensures
     (empty_holds c.is_empty.ensures c.if-is_empty.true) in
     let left : c.args.need ≤ size (minus (mask c.args.c) (mask c.args.silent)) = c.is_few.ensures.1 c.if-is_few.false in
     (take_same c.requires two.0, two.1, rw two.0 at left)
 
 pub take-returns-then-is_empty : goal.take-returns-then-is_empty
 take-returns-then-is_empty t c =
-    let two : (mask c.args.c ≡ with (2 ^ c.lowest-u.result) c.lowest-v.result) × (c.lowest-u.result ≢ c.lowest-v.result) = two_left c.lowest-u.ensures c.rest-second.ensures c.lowest-v.ensures c.rest.ensures
+    let two : (mask c.args.c ≡ with (2 ^ c.lowest-u.result) c.lowest-v.result) × (c.lowest-u.result ≢ c.lowest-v.result) = two_left c.lowest-u.ensures
+    c.rest-second.ensures c.lowest-v.ensures c.rest.ensures
     (empty_holds c.is_empty.ensures c.if-is_empty.true) in
     take_adds c.requires (needing (mask c.args.silent) c.args.need (mask c.args.s)) two.0 c.end_pair.ensures
 

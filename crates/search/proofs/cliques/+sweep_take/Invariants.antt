@@ -9,7 +9,8 @@ use Rattle.search.specs.SweepLaws.{Swept}
 use Rattle.search.proofs.cliques.+sweep_take.Given as goal
 
 abbrev pub invariant-sweep-loop-silent : goal.invariant-sweep-loop-silent
-invariant-sweep-loop-silent l = Swept (masks l.rows) (needing (mask l.silent) l.need (mask l.s)) (mask l.s) (mask l.initial.waiting) (mask l.m) (mask l.initial.left) (masks l.initial.slots) l.count
+invariant-sweep-loop-silent l = Swept (masks l.rows) (needing (mask l.silent) l.need (mask l.s)) (mask l.s) (mask l.initial.waiting) (mask l.m)
+    (mask l.initial.left) (masks l.initial.slots) l.count
     (mask l.waiting) (mask l.left) (masks l.slots) l.n × (length l.slots ≡ length l.initial.slots)
 
 abbrev pub decreases-sweep-loop-silent : goal.decreases-sweep-loop-silent

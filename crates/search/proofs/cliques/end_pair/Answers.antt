@@ -23,13 +23,15 @@ with-requires c = omega (arith, (pair_vertices c.requires.1 c.requires.0).0, c.r
 pub end_with-requires : goal.end_with-requires
 end_with-requires c =
     let near : In c.args.v (row (masks c.args.rows.now) c.args.u) = row_has _ c.get-row.ensures c.has.ensures c.if-has.true in
-    let grown : Joined (masks c.args.rows.now) (mask c.args.s) (mask c.args.m) c.args.u (mask c.with.result) (mask c.meet-beside.result) = joined c.with.ensures c.get-row.ensures c.meet-beside.ensures in
+    let grown : Joined (masks c.args.rows.now) (mask c.args.s) (mask c.args.m) c.args.u (mask c.with.result) (mask c.meet-beside.result) =
+    joined c.with.ensures c.get-row.ensures c.meet-beside.ensures in
     both_taking c.requires.1 c.requires.0 near grown
 
 pub returns-then-has : goal.returns-then-has
 returns-then-has c =
     let near : In c.args.v (row (masks c.args.rows.now) c.args.u) = row_has _ c.get-row.ensures c.has.ensures c.if-has.true in
-    let grown : Joined (masks c.args.rows.now) (mask c.args.s) (mask c.args.m) c.args.u (mask c.with.result) (mask c.meet-beside.result) = joined c.with.ensures c.get-row.ensures c.meet-beside.ensures in
+    let grown : Joined (masks c.args.rows.now) (mask c.args.s) (mask c.args.m) c.args.u (mask c.with.result) (mask c.meet-beside.result) =
+    joined c.with.ensures c.get-row.ensures c.meet-beside.ensures in
     both_enough c.requires.1 c.requires.0 near grown _ _ c.requires.2 c.end_with.ensures
 
 pub end_with-n-requires : goal.end_with-n-requires

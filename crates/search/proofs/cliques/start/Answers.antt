@@ -11,7 +11,8 @@ use Rattle.search.proofs.cliques.start.Goals as goal
 
 pub returns-then-is_few : goal.returns-then-is_few
 returns-then-is_few c =
-    let lacked : c.lacking-need.result ≡ c.args.q - size (minus (mask c.args.s) (mask c.args.silent)) = c.lacking-need.ensures ∙ ap (λ x. c.args.q - x) (c.size.ensures.0 ∙ ap size c.minus.ensures) in
+    let lacked : c.lacking-need.result ≡ c.args.q - size (minus (mask c.args.s) (mask c.args.silent)) =
+    c.lacking-need.ensures ∙ ap (λ x. c.args.q - x) (c.size.ensures.0 ∙ ap size c.minus.ensures) in
     start_lacking c.requires _ _ lacked (need_few c.requires _ _ (c.is_few.ensures.0 c.if-is_few.true) _ _)
 
 pub start-requires : goal.start-requires
@@ -19,7 +20,8 @@ start-requires c = c.requires
 
 pub returns-then-is_enough : goal.returns-then-is_enough
 returns-then-is_enough c =
-    let lacked : c.lacking-need.result ≡ c.args.q - size (minus (mask c.args.s) (mask c.args.silent)) = c.lacking-need.ensures ∙ ap (λ x. c.args.q - x) (c.size.ensures.0 ∙ ap size c.minus.ensures) in
+    let lacked : c.lacking-need.result ≡ c.args.q - size (minus (mask c.args.s) (mask c.args.silent)) =
+    c.lacking-need.ensures ∙ ap (λ x. c.args.q - x) (c.size.ensures.0 ∙ ap size c.minus.ensures) in
     start_lacking c.requires _ _ lacked (need_enough c.requires _ _ (c.is_few.ensures.1 c.if-is_few.false)
     (c.is_enough.ensures.0 c.if-is_enough.true) c.start.ensures)
 
@@ -33,6 +35,7 @@ sweep-requires c = (cover_sweeping c.requires c.agenda-next.ensures c.minus-othe
 
 pub returns : goal.returns
 returns c =
-    let lacked : c.lacking-need.result ≡ c.args.q - size (minus (mask c.args.s) (mask c.args.silent)) = c.lacking-need.ensures ∙ ap (λ x. c.args.q - x) (c.size.ensures.0 ∙ ap size c.minus.ensures) in
+    let lacked : c.lacking-need.result ≡ c.args.q - size (minus (mask c.args.s) (mask c.args.silent)) =
+    c.lacking-need.ensures ∙ ap (λ x. c.args.q - x) (c.size.ensures.0 ∙ ap size c.minus.ensures) in
     start_lacking c.requires _ _ lacked (cover_adds c.requires c.agenda-next.ensures c.minus-others.ensures
     (needing (mask c.args.silent) c.lacking-need.result (mask c.args.s)) refl c.sweep.ensures)

@@ -16,13 +16,18 @@ with-counted-requires c = omega (arith, c.requires.0.vertex, c.requires.0.suppor
 
 pub second_bound-requires : goal.second_bound-requires
 second_bound-requires c =
-    let counts : mask c.with-counted.result ≡ with (recorded (lowered c.args.k c.args.q (mask c.args.silent) (with (mask c.args.s) c.args.v)) (mask c.args.c)) c.args.v = c.with-counted.ensures ∙ ap (λ (d : ℕ). with d c.args.v) c.minus.ensures in
+    let counts : mask c.with-counted.result ≡ with (recorded (lowered c.args.k c.args.q (mask c.args.silent) (with (mask c.args.s) c.args.v)) (mask c.args.c))
+    c.args.v =
+    c.with-counted.ensures ∙ ap (λ (d : ℕ). with d c.args.v) c.minus.ensures in
     bounded_boundable (lowered c.args.k c.args.q (mask c.args.silent) (with (mask c.args.s) c.args.v)) _ c.requires.0 counts
 
 pub returns-then-second : goal.returns-then-second
 returns-then-second c =
-    let counts : mask c.with-counted.result ≡ with (recorded (lowered c.args.k c.args.q (mask c.args.silent) (with (mask c.args.s) c.args.v)) (mask c.args.c)) c.args.v = c.with-counted.ensures ∙ ap (λ (d : ℕ). with d c.args.v) c.minus.ensures in
-    λ e. bounded_empty (lowered c.args.k c.args.q (mask c.args.silent) (with (mask c.args.s) c.args.v)) _ c.requires.0 counts c.second_bound.ensures (omega (arith, c.requires.1)) (ltb-true _ _ e)
+    let counts : mask c.with-counted.result ≡ with (recorded (lowered c.args.k c.args.q (mask c.args.silent) (with (mask c.args.s) c.args.v)) (mask c.args.c))
+    c.args.v =
+    c.with-counted.ensures ∙ ap (λ (d : ℕ). with d c.args.v) c.minus.ensures in
+    λ e. bounded_empty (lowered c.args.k c.args.q (mask c.args.silent) (with (mask c.args.s) c.args.v)) _ c.requires.0 counts c.second_bound.ensures
+    (omega (arith, c.requires.1)) (ltb-true _ _ e)
 
 pub returns : goal.returns
 returns c = λ e. absurd (true_is_not_false (sym e))

@@ -74,12 +74,14 @@ take-rest-second-requires t c = c.lowest-u.ensures
 
 pub take-end_with-requires : goal.take-end_with-requires
 take-end_with-requires t c =
-    let one : mask c.args.c ≡ 2 ^ c.lowest-u.result = one_left c.lowest-u.ensures c.rest-second.ensures (empty_holds c.is_empty-2.ensures c.if-is_empty-2.true) in
+    let one : mask c.args.c ≡ 2 ^ c.lowest-u.result =
+    one_left c.lowest-u.ensures c.rest-second.ensures (empty_holds c.is_empty-2.ensures c.if-is_empty-2.true) in
     take_same c.requires one
 
 pub take-returns-then-is_empty-2 : goal.take-returns-then-is_empty-2
 take-returns-then-is_empty-2 t c =
-    let one : mask c.args.c ≡ 2 ^ c.lowest-u.result = one_left c.lowest-u.ensures c.rest-second.ensures (empty_holds c.is_empty-2.ensures c.if-is_empty-2.true) in
+    let one : mask c.args.c ≡ 2 ^ c.lowest-u.result =
+    one_left c.lowest-u.ensures c.rest-second.ensures (empty_holds c.is_empty-2.ensures c.if-is_empty-2.true) in
     take_adds c.requires (request 1 0 0) one c.end_with.ensures
 
 pub take-lowest-v-requires : goal.take-lowest-v-requires
@@ -90,13 +92,15 @@ take-rest-requires t c = c.lowest-v.ensures
 
 pub take-end_pair-requires : goal.take-end_pair-requires
 take-end_pair-requires t c =
-    let two : (mask c.args.c ≡ with (2 ^ c.lowest-u.result) c.lowest-v.result) × (c.lowest-u.result ≢ c.lowest-v.result) = two_left c.lowest-u.ensures c.rest-second.ensures c.lowest-v.ensures c.rest.ensures
+    let two : (mask c.args.c ≡ with (2 ^ c.lowest-u.result) c.lowest-v.result) × (c.lowest-u.result ≢ c.lowest-v.result) = two_left c.lowest-u.ensures
+    c.rest-second.ensures c.lowest-v.ensures c.rest.ensures
     (empty_holds c.is_empty-3.ensures c.if-is_empty-3.true) in
     (take_same c.requires two.0, two.1)
 
 pub take-returns-then-is_empty-3 : goal.take-returns-then-is_empty-3
 take-returns-then-is_empty-3 t c =
-    let two : (mask c.args.c ≡ with (2 ^ c.lowest-u.result) c.lowest-v.result) × (c.lowest-u.result ≢ c.lowest-v.result) = two_left c.lowest-u.ensures c.rest-second.ensures c.lowest-v.ensures c.rest.ensures
+    let two : (mask c.args.c ≡ with (2 ^ c.lowest-u.result) c.lowest-v.result) × (c.lowest-u.result ≢ c.lowest-v.result) = two_left c.lowest-u.ensures
+    c.rest-second.ensures c.lowest-v.ensures c.rest.ensures
     (empty_holds c.is_empty-3.ensures c.if-is_empty-3.true) in
     take_adds c.requires (request 1 0 0) two.0 c.end_pair.ensures
 

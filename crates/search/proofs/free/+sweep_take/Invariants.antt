@@ -8,7 +8,8 @@ use Rattle.search.specs.SweepLaws.{Swept}
 use Rattle.search.proofs.free.+sweep_take.Given as goal
 
 abbrev pub invariant-sweep-loop-s : goal.invariant-sweep-loop-s
-invariant-sweep-loop-s l = Swept (masks l.rows) (request 1 0 0) (mask l.s) (mask l.initial.waiting) (mask l.m) (mask l.initial.left) (masks l.initial.slots) l.count
+invariant-sweep-loop-s l = Swept (masks l.rows) (request 1 0 0) (mask l.s) (mask l.initial.waiting) (mask l.m) (mask l.initial.left) (masks l.initial.slots)
+    l.count
     (mask l.waiting) (mask l.left) (masks l.slots) l.n × (length l.slots ≡ length l.initial.slots)
 
 abbrev pub decreases-sweep-loop-s : goal.decreases-sweep-loop-s

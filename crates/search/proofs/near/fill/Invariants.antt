@@ -6,7 +6,8 @@ use Rattle.search.specs.NearRowsLaws.{Written}
 use Rattle.search.proofs.near.fill.Given as goal
 
 abbrev pub invariant-loop-v : goal.invariant-loop-v
-invariant-loop-v l = Written (near_row (masks l.rows) l.k l.q (mask l.all) (mask l.core) l.reach l.pairs) l.v (masks l.initial.near) (masks l.near) × (length l.near ≡ length l.initial.near)
+invariant-loop-v l = Written (near_row (masks l.rows) l.k l.q (mask l.all) (mask l.core) l.reach l.pairs) l.v (masks l.initial.near) (masks l.near) ×
+    (length l.near ≡ length l.initial.near)
 
 abbrev pub decreases-loop-v : goal.decreases-loop-v
 decreases-loop-v l = l.n - l.v

@@ -16,12 +16,14 @@ get-requires c = omega (arith, c.requires.trimmable.vertex)
 
 pub drop_blocked-requires : goal.drop_blocked-requires
 drop_blocked-requires c =
-    let trimmable : Trimmable (masks c.args.rows.now) (mask c.with-joined.result) (mask c.meet-close.result) c.args.v = near_trimmable c.requires c.with-joined.ensures c.without.ensures c.get.ensures c.meet-close.ensures in
+    let trimmable : Trimmable (masks c.args.rows.now) (mask c.with-joined.result) (mask c.meet-close.result) c.args.v =
+    near_trimmable c.requires c.with-joined.ensures c.without.ensures c.get.ensures c.meet-close.ensures in
     trimmable
 
 pub drop_missing-requires : goal.drop_missing-requires
 drop_missing-requires c =
-    let trimmable : Trimmable (masks c.args.rows.now) (mask c.with-joined.result) (mask c.meet-close.result) c.args.v = near_trimmable c.requires c.with-joined.ensures c.without.ensures c.get.ensures c.meet-close.ensures in
+    let trimmable : Trimmable (masks c.args.rows.now) (mask c.with-joined.result) (mask c.meet-close.result) c.args.v =
+    near_trimmable c.requires c.with-joined.ensures c.without.ensures c.get.ensures c.meet-close.ensures in
     still_trimmable trimmable c.drop_blocked.ensures
 
 pub returns : goal.returns

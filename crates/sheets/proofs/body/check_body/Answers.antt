@@ -81,7 +81,8 @@ returns c =
     let room : c.args.n ≤ length (masks table) = table_fits c.args.n c.requires.1 in
     let long : c.offset-end.result ≤ length table = offset_fits c.args.n c.offset-end.result table c.offset-end.ensures room in
     let stored_long : length c.store_rows.new.rows ≡ c.offset-end.result = c.store_rows.auto.rows ∙ length-take-le c.offset-end.result table long in
-    let stored_rows : masks c.store_rows.new.rows ≡ rows_in c.args.n c.args.text.now = c.store_rows.ensures ∙ ap (λ (m : ℕ). rows_in m c.args.text.now) (lent_length table c.args.n _ c.offset-end.ensures room) in
+    let stored_rows : masks c.store_rows.new.rows ≡ rows_in c.args.n c.args.text.now =
+    c.store_rows.ensures ∙ ap (λ (m : ℕ). rows_in m c.args.text.now) (lent_length table c.args.n _ c.offset-end.ensures room) in
     c.then_isolated.ensures _ c.check_silent.ensures
     ∙ ap₂ (λ (g : List ℕ) (z : ℕ). first_cause (set_cause g z ∷ graph_causes g ++ isolated_cause g ∷ []) passed)
     (front_masks c.store_rows.new.rows (drop c.offset-end.result table) stored_long stored_rows) c.silent.ensures

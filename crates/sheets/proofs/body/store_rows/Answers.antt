@@ -17,8 +17,12 @@ pub put-requires : goal.put-requires
 put-requires c = omega (arith, count_masks c.args.rows.now, count_masks c.loop-a.rows)
 
 pub loop-a-preserved : goal.loop-a-preserved
-loop-a-preserved c =
-    (c.loop-a.invariant.0, c.put.auto.words ∙ c.loop-a.invariant.1, storing_more c.loop-a.invariant.2 (omega arith) (c.set_at.ensures ∙ field_below row_digits _ _) c.put.ensures)
+loop-a-preserved c = (
+  c.loop-a.invariant.0,
+  c.put.auto.words ∙ c.loop-a.invariant.1,
+  storing_more c.loop-a.invariant.2 (omega arith)
+      (c.set_at.ensures ∙ field_below row_digits _ _) c.put.ensures,
+)
 
 pub shape_of-rows : goal.shape_of-rows
 shape_of-rows c = c.loop-a.invariant.1

@@ -8,7 +8,8 @@ use Rattle.sheets.specs.LineLaws.{Storing}
 use Rattle.sheets.proofs.body.store_rows.Given as goal
 
 abbrev pub invariant-loop-a : goal.invariant-loop-a
-invariant-loop-a l = (l.n ≡ length (masks l.initial.rows)) × (length l.rows ≡ length l.initial.rows) × Storing row_digits (drop row_length l.text) (masks l.initial.rows) (masks l.rows) l.a
+invariant-loop-a l = (l.n ≡ length (masks l.initial.rows)) × (length l.rows ≡ length l.initial.rows) × Storing row_digits (drop row_length l.text)
+    (masks l.initial.rows) (masks l.rows) l.a
 
 abbrev pub decreases-loop-a : goal.decreases-loop-a
 decreases-loop-a l = l.n - l.a

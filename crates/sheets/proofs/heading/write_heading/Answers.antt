@@ -8,7 +8,8 @@ use Rattle.sheets.proofs.heading.write_heading.Goals as goal
 
 pub shape_of-text : goal.shape_of-text
 shape_of-text c =
-    ap length (heading_filled c.args.n (asked c.args.request) c.args.text.now c.requires c.write.ensures refl c.write-2.ensures refl c.write-3.ensures refl) ∙ heading_keeps_length c.args.n (asked c.args.request) c.args.text.now (omega arith)
+    ap length (heading_filled c.args.n (asked c.args.request) c.args.text.now c.requires c.write.ensures refl c.write-2.ensures refl c.write-3.ensures refl) ∙
+    heading_keeps_length c.args.n (asked c.args.request) c.args.text.now (omega arith)
 
 pub returns : goal.returns
 returns c = heading_filled c.args.n (asked c.args.request) c.args.text.now c.requires c.write.ensures refl c.write-2.ensures refl c.write-3.ensures refl

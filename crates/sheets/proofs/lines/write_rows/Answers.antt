@@ -14,7 +14,11 @@ write_row-requires c = omega (arith, part_length (c.loop-a.a * row_length) row_l
 
 pub loop-a-preserved : goal.loop-a-preserved
 unfolding row
-loop-a-preserved c = (c.loop-a.invariant.0, writing_more c.loop-a.invariant.1 (omega arith) (omega arith) c.get.ensures c.write_row.auto.text c.write_row.ensures)
+loop-a-preserved c = (
+  c.loop-a.invariant.0,
+  writing_more c.loop-a.invariant.1 (omega arith) (omega arith) c.get.ensures c.write_row.auto.text
+      c.write_row.ensures,
+)
 
 pub shape_of-text : goal.shape_of-text
 shape_of-text c = c.loop-a.invariant.1.long
