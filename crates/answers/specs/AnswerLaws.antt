@@ -1,23 +1,20 @@
 -- From what was read, listed and written to the answer of the definitions.
-use Rattle.std.specs.Prelude.{ℕ, ◌*◌, ◌≤◌, refl, length, take, drop}
+use Rattle.std.specs.Prelude.{ℕ, ◌*◌, ◌≤◌, refl, length, take, drop, Ok, Err}
 use Rattle.std.proofs.Common.{arith, sym, ◌∙◌, length-append}
 use Rattle.std.proofs.Math.Path.{◌≡◌, ap, subst}
 use mathlib.Core.List.{List}
 use Rattle.sets.specs.Words.{per_set, masks}
 use Rattle.sets.specs.Words.Masks.{count_masks, lent_before}
-use Rattle.judging.specs.Request.{Request}
+use Rattle.judging.specs.Request.{Request, asked}
 use Rattle.judging.specs.Refusal.{Reply, refused, answered, most_vertices}
 use Rattle.judging.specs.Calls.{refusal, number_of, value_of}
 use Rattle.judging.specs.declared.Refusal.{Refusal}
 use Rattle.sheets.specs.Sheet.{Sheet, reading, rows_after}
 use Rattle.sheets.specs.OverLaws.{over_fits, over_front}
-use Rattle.sheets.specs.Calls.{Heading, heading, heading_of, read_reply}
-use Rattle.sheets.specs.declared.SheetRead.{SheetRead}
-use Rattle.sheets.specs.declared.SheetRead.TheVariants as reads
+use Rattle.sheets.specs.Calls.{Heading, heading, heading_of, ReadSheet}
+use Rattle.sheets.specs.declared.Sheet as code
 use Rattle.lists.specs.Listing.{listing}
-use Rattle.search.specs.Calls.{list_reply, list_found_reply, slots_after}
-use Rattle.search.specs.declared.ListFound.{ListFound}
-use Rattle.search.specs.declared.ListFound.TheVariants as lists
+use Rattle.search.specs.Calls.{Lists}
 use Rattle.search.specs.OutcomeLaws.{list_count, list_room, slots_list, slots_first}
 use Rattle.answers.specs.Output.{list_text, refusal_text, reply_text, list_length, refusal_length, Writes}
 use Rattle.answers.specs.Answer.{with_list, answer_of, slots_of, answer_text, slots_left, WritesList, Answers, Room}
@@ -32,19 +29,8 @@ room_fits words slots bytes e f l h = record { list = omega (arith, count_masks 
 
 -- ---- the call that lists
 
-pub listed_refused : {g : List ℕ} {ask : Request} {before after old out : List ℕ} {r : ℕ} {x : ListFound} {f : Refusal} → x ≡ lists.Refused f
-    → list_found_reply x ≡ list_reply g ask (length before) → after ≡ slots_after g ask before → Writes (refusal_text (number_of f) (value_of f)) old out r
-    → WritesList g ask before after old out r
-listed_refused {g} {ask} {old = old} {out = out} {r = r} p e s w =
-    let told = sym (ap list_found_reply p) ∙ e in
-    record { written = subst (λ (y : Reply (Unit {0})). Writes (reply_text (with_list y (listing g ask))) old out r) told w; slots = s }
-
 -- it gave m, and left the words ws in the slots
-pub record GaveList (g : List ℕ) (ask : Request) (before : List ℕ) (m : ℕ) (ws : List ℕ) : Type 0 where
-  pub reply : answered m tt ≡ list_reply g ask (length before)
-  pub slots : masks ws ≡ slots_after g ask before
-
-module _ {g : List ℕ} {ask : Request} {before : List ℕ} {m : ℕ} {ws : List ℕ} (h : GaveList g ask before m ws) where
+module _ {g : List ℕ} {ask : Request} {before : List ℕ} {m : ℕ} (ws : List ℕ) (h : Lists g ask before (masks ws) (Ok m)) where
   pub listed_fits : m ≤ length (masks ws)
   listed_fits =
       omega (
@@ -75,14 +61,16 @@ module _ {g : List ℕ} {ask : Request} {before : List ℕ} {m : ℕ} {ws : List
 
 -- ---- the sheet that was read
 
--- reading the text t gave n and the request, and its rows are the first n of those that were lent
-pub record GaveSheet (t : List ℕ) (n : ℕ) (ask : Request) (rest ws : List ℕ) : Type 0 where
-  pub reply : answered 0 (heading n ask) ≡ heading_of (reading t most_vertices)
-  pub rows : masks ws ≡ rows_after (reading t most_vertices) rest
+-- a row was lent for each vertex: reading the text t gave n and the request, and its rows are the first n of those words
+module _ {t : List ℕ} {s : code.Sheet} {rest : List ℕ} (ws : List ℕ) (room : length rest ≡ most_vertices) (h : ReadSheet t rest (masks ws) (Ok s)) where
+  abbrev n : ℕ
+  n = s.vertices
 
-module _ {t : List ℕ} {n : ℕ} {ask : Request} {rest ws : List ℕ} (h : GaveSheet t n ask rest ws) where
-  pub rows_fit : n ≤ length (masks ws)
-  rows_fit = go (reading t most_vertices) h.reply h.rows
+  abbrev ask : Request
+  ask = asked s.request
+
+  pub rows_fit : s.vertices ≤ length (masks ws)
+  rows_fit = go (reading t (length rest)) h.reply h.rows
     where
       go : (x : Reply Sheet) → answered 0 (heading n ask) ≡ heading_of x → masks ws ≡ rows_after x rest → n ≤ length (masks ws)
       go (refused c v) z y = let w : ◌≡◌ {A = ℕ} 0 1 = cc in absurd (omega arith)
@@ -90,11 +78,11 @@ module _ {t : List ℕ} {n : ℕ} {ask : Request} {rest ws : List ℕ} (h : Gave
           let same : heading n ask ≡ heading (length s.rows) s.request = cc in
           omega (arith, ap (λ (x : Heading). x.vertices) same, ap length y, over_fits s.rows rest)
 
-  pub answer_listed : {end : ℕ} {before after old out : List ℕ} {r : ℕ} → end ≡ n * per_set → WritesList (masks (take end ws)) ask before after old out r
-      → Answers t before after old out r
+  pub answer_listed : {end : ℕ} {before after old out : List ℕ} {r : ℕ} → end ≡ s.vertices * per_set
+      → WritesList (masks (take end ws)) (asked s.request) before after old out r → Answers t before after old out r
   unfolding answer_text slots_left
   answer_listed {end} {before} {after} {old} {out} {r} at w =
-      let a = go (reading t most_vertices) h.reply h.rows in
+      let a = rw room at (go (reading t (length rest)) h.reply h.rows) in
       record { written = a.0; slots = a.1 }
     where
       go : (x : Reply Sheet) → answered 0 (heading n ask) ≡ heading_of x → masks ws ≡ rows_after x rest
@@ -109,11 +97,11 @@ module _ {t : List ℕ} {n : ℕ} {ask : Request} {rest ws : List ℕ} (h : Gave
           (subst (λ (g : List ℕ). WritesList g ask before after old out r) front w) in
           (list.written, list.slots)
 
-pub answer_refused : {t before old out : List ℕ} {r : ℕ} {x : SheetRead} {f : Refusal} → x ≡ reads.Refused f → read_reply x ≡ heading_of (reading t most_vertices)
+pub answer_refused : {t rest after before old out : List ℕ} {r : ℕ} {f : Refusal} → length rest ≡ most_vertices → ReadSheet t rest after (Err f)
     → Writes (refusal_text (number_of f) (value_of f)) old out r → Answers t before before old out r
 unfolding answer_text slots_left
-answer_refused {t} {before} {old} {out} {r} {f = f} p e w =
-    let a = go (reading t most_vertices) (sym (ap read_reply p) ∙ e) in
+answer_refused {t} {rest} {before = before} {old} {out} {r} {f} room h w =
+    let a = rw room at (go (reading t (length rest)) h.reply) in
     record { written = a.0; slots = a.1 }
   where
     go : (x : Reply Sheet) → refusal f ≡ heading_of x → Writes (reply_text (answer_of x (length before))) old out r × (before ≡ slots_of x before)

@@ -1,6 +1,6 @@
 -- Laws of what is printed: how long it is, and that what the code writes, part after part, is the text of a list or of a refusal.
-use Rattle.std.specs.Prelude.{ℕ, suc, ◌+◌, ◌-◌, ◌*◌, ◌/◌, ◌%◌, ◌≤◌, ◌≡◌, List, [], ◌∷◌, ◌++◌, length, take, drop, set}
-use Rattle.std.proofs.Common.{arith, sym, ap, ap₂, ◌∙◌, length-append, length-take-le}
+use Rattle.std.specs.Prelude.{ℕ, suc, ◌+◌, ◌-◌, ◌*◌, ◌/◌, ◌%◌, ◌≤◌, ◌≡◌, List, [], ◌∷◌, ◌++◌, length, take, drop}
+use Rattle.std.proofs.Common.{arith, sym, ap, ap₂, ◌∙◌, length-append, length-drop, length-take-le, drop-drop}
 use Rattle.sheets.specs.Digits.{digits}
 use Rattle.sheets.specs.Lines.{line, lines}
 use Rattle.sheets.specs.Sheet.{row_digits, row_length, over}
@@ -36,31 +36,31 @@ list_written ms {t = t} c l e f h =
 
 -- ---- a refusal
 
+abbrev mark_length : ℕ
+mark_length = refusal_length - row_length
+
 pub refusal_length_lem : (n v : ℕ) → length (refusal_text n v) ≡ refusal_length
 unfolding refusal_text decimals line
 refusal_length_lem n v = omega (arith, length-append (digits row_digits v) (10 ∷ []), digits-length row_digits v)
 
--- the bytes before the value's line, as the code stores them
-abbrev pub marked : ℕ → ℕ → List ℕ → List ℕ
-marked x y t = set (set (set (set t 0 letter_r) 1 x) 2 y) 3 blank
-
-pub refusal_written : (n v : ℕ) (t : List ℕ) {m x y z : ℕ} {p : List ℕ} → refusal_length ≤ length t → m ≡ n
-    → x ≡ (m / 10) % 10 + figure_zero → y ≡ m % 10 + figure_zero → z ≡ v
-    → p ≡ line (digits (length (take (refusal_length - 4) (drop 4 (marked x y t))) - 1) z)
-    → Writes (refusal_text n v) t (take 4 (marked x y t) ++ (p ++ drop (refusal_length - 4) (drop 4 (marked x y t)))) refusal_length
+-- the bytes before the value's line, which the code copies to the front of t, and then the line behind them
+pub refusal_written : (n v : ℕ) (t : List ℕ) {m x y z : ℕ} {mark p : List ℕ} → refusal_length ≤ length t → m ≡ n
+    → x ≡ (m / 10) % 10 + figure_zero → y ≡ m % 10 + figure_zero → mark ≡ letter_r ∷ x ∷ y ∷ blank ∷ [] → z ≡ v
+    → p ≡ line (digits (length (take row_length (drop mark_length (mark ++ drop mark_length t))) - 1) z)
+    → Writes (refusal_text n v) t
+    (take mark_length (mark ++ drop mark_length t) ++ (p ++ drop row_length (drop mark_length (mark ++ drop mark_length t)))) refusal_length
 unfolding refusal_text decimals line over
-refusal_written n v [] l d e f i h = absurd (omega arith)
-refusal_written n v (a ∷ []) l d e f i h = absurd (omega arith)
-refusal_written n v (a ∷ b ∷ []) l d e f i h = absurd (omega arith)
-refusal_written n v (a ∷ b ∷ c ∷ []) l d e f i h = absurd (omega arith)
-refusal_written n v (a ∷ b ∷ c ∷ k ∷ t) {p = p} l d e f i h =
+refusal_written n v t {z = z} {p = p} l d e f g i h =
     let tens = e ∙ ap (λ (j : ℕ). (j / 10) % 10 + figure_zero) d in
     let units = f ∙ ap (λ (j : ℕ). j % 10 + figure_zero) d in
-    let value : p ≡ line (digits row_digits v) = h ∙ ap₂ (λ (j u : ℕ). line (digits (j - 1) u)) (length-take-le row_length t (omega arith)) i in
+    let same = g ∙ ap₂ (λ (j u : ℕ). letter_r ∷ j ∷ u ∷ blank ∷ []) tens units in
+    let value : p ≡ line (digits row_digits v) =
+    h ∙ ap (λ (w : List ℕ). line (digits (length (take row_length (drop mark_length (w ++ drop mark_length t))) - 1) z)) same
+    ∙ ap₂ (λ (j u : ℕ). line (digits (j - 1) u)) (length-take-le row_length (drop mark_length t) (omega (arith, length-drop mark_length t))) i in
     record {
       count = sym (refusal_length_lem n v);
       text =
-          ap₂ (λ (j u : ℕ). letter_r ∷ j ∷ u ∷ blank ∷ (p ++ drop row_length t)) tens units
-          ∙ ap (λ (w : List ℕ). letter_r ∷ ((n / 10) % 10 + figure_zero) ∷ (n % 10 + figure_zero) ∷ blank ∷ (w ++ drop row_length t)) value
-          ∙ ap (λ (j : ℕ). refusal_text n v ++ drop j (a ∷ b ∷ c ∷ k ∷ t)) (sym (refusal_length_lem n v));
+          ap (λ (w : List ℕ). take mark_length (w ++ drop mark_length t) ++ (p ++ drop row_length (drop mark_length (w ++ drop mark_length t)))) same
+          ∙ ap (λ (w : List ℕ). letter_r ∷ ((n / 10) % 10 + figure_zero) ∷ (n % 10 + figure_zero) ∷ blank ∷ (w ++ drop row_length (drop mark_length t))) value
+          ∙ ap (λ (w : List ℕ). refusal_text n v ++ w) (drop-drop row_length mark_length t ∙ ap (λ (j : ℕ). drop j t) (sym (refusal_length_lem n v)));
     }

@@ -8,8 +8,7 @@ ghost use Rattle.answers.specs.Answer.{Answers, WritesList, Room};
 mod output;
 
 use judging::Request;
-use search::ListFound;
-use sheets::{SheetRead, lines};
+use sheets::lines;
 
 // Lists the maximal k-plexes of the graph into the slots, and writes the list, or why there is none, to the front of `out`.
 fn list_out(rows: &[u64], request: Request, slots: &mut [u64], out: &mut [u8]) -> usize
@@ -17,13 +16,12 @@ fn list_out(rows: &[u64], request: Request, slots: &mut [u64], out: &mut [u8]) -
     ensures { WritesList (masks rows.now) (asked request) (masks slots.old) (masks slots.new)
         out.old out.new result }
 {
-    let found = search::list(rows, request, slots);
-    match found {
-        ListFound::Listed(m) => {
+    match search::list(rows, request, slots) {
+        Ok(m) => {
             let end = sets::offset(slots, m);
             output::write_list(&slots[..end], out)
         }
-        ListFound::Refused(f) => output::write_refusal(f, out),
+        Err(f) => output::write_refusal(f, out),
     }
 }
 
@@ -43,12 +41,11 @@ pub fn answer(text: &[u8], slots: &mut [u64; SLOT_WORDS], out: &mut [u8; MOST_OU
     ensures { Answers text.now (masks slots.old) (masks slots.new) out.old out.new result }
 {
     let mut rows = [0u64; sets::TABLE];
-    let read = sheets::read_sheet(text, &mut rows);
-    match read {
-        SheetRead::Read { vertices, request } => {
-            let end = sets::offset(&rows, vertices);
-            list_out(&rows[..end], request, slots, out)
+    match sheets::read_sheet(text, &mut rows) {
+        Ok(sheet) => {
+            let end = sets::offset(&rows, sheet.vertices);
+            list_out(&rows[..end], sheet.request, slots, out)
         }
-        SheetRead::Refused(f) => output::write_refusal(f, out),
+        Err(f) => output::write_refusal(f, out),
     }
 }

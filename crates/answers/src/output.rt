@@ -16,7 +16,7 @@ const REFUSAL_LENGTH: usize = VALUE_AT + lines::ROW_LENGTH;
 fn decimal(x: usize) -> u8
     ensures { result ≡ x % 10 + figure_zero }
 {
-    (x % 10 + 48) as u8
+    (x % 10) as u8 + b'0'
 }
 
 // Writes the number of the masks on a line, and then each mask. Gives the length of what is written.
@@ -35,14 +35,9 @@ pub fn write_refusal(refusal: Refusal, out: &mut [u8]) -> usize
     requires { refusal_length ≤ length out.old }
     ensures { Writes (refusal_text (number_of refusal) (value_of refusal)) out.old out.new result }
 {
-    let number = judging::number(refusal);
-    out[0] = b'R';
-    out[1] = decimal(number / 10);
-    out[2] = decimal(number);
-    out[3] = b' ';
-    lines::write_line(
-        &mut out[VALUE_AT..REFUSAL_LENGTH],
-        judging::value(refusal) as u64,
-    );
+    let number = refusal.number();
+    let mark = [b'R', decimal(number / 10), decimal(number), b' '];
+    out[..VALUE_AT].copy_from_slice(&mark);
+    lines::write_line(&mut out[VALUE_AT..REFUSAL_LENGTH], refusal.value() as u64);
     REFUSAL_LENGTH
 }

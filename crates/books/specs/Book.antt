@@ -1,6 +1,7 @@
 -- A season book (document 02, Card 3): a graph, a request and the current list; and what it is after a change.
 --
 --   Change             two vertices, and whether they are adjacent afterwards
+--   change_of c        the change c of the code, as definitions have it
 --   turned s v on      s with v, or without it
 --   already_so g c      the two vertices of c are adjacent, or not, in g already as c says
 --   changed_graph g c   the graph g with the two vertices of c adjacent, or not: both rows change, and no other
@@ -13,6 +14,7 @@ use Rattle.sets.specs.Graph.{row}
 use Rattle.judging.specs.Graph.{adjacent}
 use Rattle.judging.specs.Request.{Request}
 use Rattle.lists.specs.Listing.{listing}
+use Rattle.books.specs.declared.edge.Change as declared
 
 pub record Change : Type 0 where
   pub one : ℕ
@@ -21,6 +23,9 @@ pub record Change : Type 0 where
 
 abbrev pub change : ℕ → ℕ → Bool → Change
 change a b on = record { one = a; other = b; on = on }
+
+abbrev pub change_of : declared.Change → Change
+change_of c = change c.a c.b c.adjacent
 
 abbrev pub turned : ℕ → ℕ → Bool → ℕ
 turned s v on = cond on (with s v) (without s v)

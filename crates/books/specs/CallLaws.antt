@@ -7,19 +7,17 @@ use mathlib.Core.List.{List, [], ◌∷◌, ◌++◌}
 use borrow.Author.Tests.{le-leb, lt-leb, eq-eqb, ne_eqb, eqb-false}
 use Rattle.judging.specs.Request.{Request}
 use Rattle.judging.specs.Refusal.{refused, answered, first_cause, vertex_out_cause}
-use Rattle.judging.specs.Calls.{refusal, passed, checked_reply, request_check}
+use Rattle.judging.specs.Calls.{refusal, passed, request_check}
 use Rattle.judging.specs.RefusalLaws.{first_holds, first_skips, passed_front, passed_back, passed_head, passed_tail, vertex_below}
 use Rattle.judging.specs.CallLaws.{front_refused, front_accepted}
 use Rattle.judging.specs.declared.Refusal.{Refusal}
 use Rattle.judging.specs.declared.Refusal.TheVariants.{Slots}
-use Rattle.judging.specs.declared.Checked.{Checked}
-use Rattle.judging.specs.declared.Checked.TheVariants.{Passed, Failed}
 use Rattle.lists.specs.Listing.{listing}
 use Rattle.search.specs.Start.{Accepted}
 use Rattle.search.specs.Calls.{Collects}
 use Rattle.search.specs.CallLaws.{accepted_holds}
 use Rattle.search.specs.RoomLaws.{room_refused, room_fits, room_short}
-use Rattle.search.specs.declared.ListFound.TheVariants.{Listed, Refused}
+use Rattle.std.specs.Prelude.{Ok, Err}
 use Rattle.books.specs.Book.{Change, already_so, changed_graph}
 use Rattle.books.specs.Calls.{loop_cause, unchanged_cause, pair_causes, change_check, change_reply, rows_changed, slots_changed, Changes, Changeable, Renews}
 use Rattle.books.specs.EdgeLaws.{changed_length, changed_valid}
@@ -81,15 +79,14 @@ module _ (g : List ℕ) (c : Change) where
 -- ---- the book's own entries, and then the two vertices
 
 module _ (g : List ℕ) (ask : Request) (c : Change) where
-  pub request_refused : {r : Checked} {f : Refusal} → checked_reply r ≡ first_cause (request_check g ask) passed → r ≡ Failed f
-      → refusal f ≡ first_cause (change_check g ask c) passed
+  pub request_refused : (f : Refusal) → refusal f ≡ first_cause (request_check g ask) passed → refusal f ≡ first_cause (change_check g ask c) passed
   unfolding change_check
-  request_refused h e = front_refused (request_check g ask) (pair_causes g c) passed h e
+  request_refused f h = front_refused (request_check g ask) (pair_causes g c) passed f h
 
-  pub request_accepted : {r : Checked} → checked_reply r ≡ first_cause (request_check g ask) passed → r ≡ Passed
+  pub request_accepted : passed ≡ first_cause (request_check g ask) passed
       → first_cause (change_check g ask c) passed ≡ first_cause (pair_causes g c) passed
   unfolding change_check
-  request_accepted h e = front_accepted (request_check g ask) (pair_causes g c) passed h e
+  request_accepted h = front_accepted (request_check g ask) (pair_causes g c) passed h
 
   -- a change that passes
   module _ (e : first_cause (change_check g ask c) passed ≡ passed) where
@@ -122,7 +119,7 @@ changed_accepted x ok =
 -- ---- what the call answers
 
 module _ (g : List ℕ) (ask : Request) (c : Change) where
-  pub change_refused : (f : Refusal) (slots : List ℕ) → first_cause (change_check g ask c) passed ≡ refusal f → Changes g ask c slots g slots (Refused f)
+  pub change_refused : (f : Refusal) (slots : List ℕ) → first_cause (change_check g ask c) passed ≡ refusal f → Changes g ask c slots g slots (Err f)
   unfolding change_reply rows_changed slots_changed
   change_refused f slots e = let r = room_refused (change_check g ask c) (length (listing (changed_graph g c) ask)) (length slots) e in record {
     reply = sym r;
@@ -131,13 +128,13 @@ module _ (g : List ℕ) (ask : Request) (c : Change) where
   }
 
   module _ (e : first_cause (change_check g ask c) passed ≡ passed) {before after : List ℕ} {m : ℕ} (x : Renews (changed_graph g c) ask before after m) where
-    pub change_short : length before < m → Changes g ask c before g after (Refused (Slots m))
+    pub change_short : length before < m → Changes g ask c before g after (Err (Slots m))
     unfolding change_reply rows_changed slots_changed
     change_short l =
         let r = room_short (change_check g ask c) (length (listing (changed_graph g c) ask)) (length before) e (omega (arith, l, x.made.counted)) in
         record { reply = ap (refused 6) x.made.counted ∙ sym r; rows = rw r; slots = x.short l ∙ rw r }
 
-    pub change_fits : {h : List ℕ} → m ≤ length before → h ≡ changed_graph g c → Changes g ask c before h after (Listed m)
+    pub change_fits : {h : List ℕ} → m ≤ length before → h ≡ changed_graph g c → Changes g ask c before h after (Ok m)
     unfolding change_reply rows_changed slots_changed
     change_fits l d =
         let r = room_fits (change_check g ask c) (length (listing (changed_graph g c) ask)) (length before) e (omega (arith, l, x.made.counted)) in

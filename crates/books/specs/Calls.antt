@@ -12,9 +12,10 @@
 use Rattle.std.specs.Prelude.{ℕ, ◌<◌, ◌≡◌, ◌≢◌, List, [], ◌∷◌, ◌++◌, eqb, length, drop}
 use Rattle.judging.specs.Request.{Request}
 use Rattle.judging.specs.Refusal.{Reply, refused, answered, Cause, cause, vertex_out_cause}
-use Rattle.judging.specs.Calls.{request_check}
-use Rattle.search.specs.Calls.{room_reply, list_found_reply, Collects}
-use Rattle.search.specs.declared.ListFound.{ListFound}
+use Rattle.judging.specs.Calls.{valued_reply, request_check}
+use Rattle.search.specs.Calls.{room_reply, Collects}
+use Rattle.judging.specs.declared.Refusal.{Refusal}
+use Rattle.std.specs.Prelude.{Result}
 use Rattle.books.specs.Book.{Change, already_so, opened, changed}
 
 unfoldable pub loop_cause : Change → Cause
@@ -48,8 +49,8 @@ slots_changed g ask c slots =
     unless_refused (change_reply g ask c (length slots)) slots (l ++ drop (length l) slots)
 
 -- h are the rows at exit
-pub record Changes (g : List ℕ) (ask : Request) (c : Change) (before h after : List ℕ) (r : ListFound) : Type 0 where
-  pub reply : list_found_reply r ≡ change_reply g ask c (length before)
+pub record Changes (g : List ℕ) (ask : Request) (c : Change) (before h after : List ℕ) (r : Result ℕ Refusal) : Type 0 where
+  pub reply : valued_reply r ≡ change_reply g ask c (length before)
   pub rows : h ≡ rows_changed g ask c (length before)
   pub slots : after ≡ slots_changed g ask c before
 

@@ -1,42 +1,27 @@
 // The season book: a graph and its list in lent memory, kept together while edges come and go.
 #![tactic(auto)]
 
+ghost use Rattle.std.specs.Prelude.{◌≤◌};
 ghost use Rattle.sets.specs.Words.{mask, masks};
 ghost use Rattle.judging.specs.Request.{asked};
 ghost use Rattle.search.specs.Start.{Accepted, Candidates};
-ghost use Rattle.books.specs.Book.{change, changed_graph};
+ghost use Rattle.books.specs.Book.{change, change_of, changed_graph};
 ghost use Rattle.books.specs.Calls.{Changeable, Renews, Changes};
 
 mod check;
 mod edge;
 
-use judging::{Checked, Refusal, Request};
-use search::ListFound;
+use edge::Change;
+use judging::{Refusal, Request};
 use sets::Set;
 
-// A list is made in memory of the call's own first: where it fits there, one search both counts and finds it. To empty memory for HELD sets takes longer than
-// some searches: among few candidates there is less of it, for HELD_SMALL or HELD_TINY sets (docs/DECISIONS.md has the figures).
-const HELD: usize = 4096;
+// A list is made in memory of the call's own first: where it fits there, one search both counts and finds it. There is memory for 4,096 sets; to empty it
+// takes longer than some searches, so among few candidates there is less of it (docs/DECISIONS.md has the figures).
+const LARGE: usize = 4096 * sets::WORDS;
 
-const HELD_SMALL: usize = 1024;
+const SMALL: usize = 1024 * sets::WORDS;
 
-const HELD_TINY: usize = 128;
-
-// Are the candidates so few that a search may be over before memory for HELD sets is emptied? At slack 1 a search takes less time.
-fn is_small(k: usize, candidates: usize) -> bool {
-    if k == 1 {
-        return candidates < 48;
-    }
-    candidates < 20
-}
-
-// Are they so few that it may be over before memory for HELD_SMALL sets is?
-fn is_tiny(k: usize, candidates: usize) -> bool {
-    if k == 1 {
-        return candidates < 20;
-    }
-    candidates < 9
-}
+const TINY: usize = 128 * sets::WORDS;
 
 // Gives the slots the list of the graph, where they have room for it, and its length in any case. The list is made in `held` first; only one that is
 // longer than that is searched for once more. Every set of the list lies in `all`.
@@ -55,65 +40,45 @@ fn renew_by(rows: &[u64], request: Request, all: Set, held: &mut [u64], slots: &
     m
 }
 
-// The same with memory for HELD_TINY sets.
-fn renew_tiny(rows: &[u64], request: Request, all: Set, slots: &mut [u64]) -> usize
-    requires { Accepted (masks rows.now) (asked request) × Candidates (masks rows.now) (asked request) (mask all) }
+// The same with N words of memory.
+fn renew_with<const N: usize>(rows: &[u64], request: Request, all: Set, slots: &mut [u64]) -> usize
+    requires { Accepted (masks rows.now) (asked request) × Candidates (masks rows.now) (asked request) (mask all) × (N ≤ LARGE) }
     ensures { Renews (masks rows.now) (asked request) (masks slots.old) (masks slots.new) result }
 {
-    let mut held = [0u64; HELD_TINY * sets::WORDS];
+    let mut held = [0u64; N];
     renew_by(rows, request, all, &mut held, slots)
 }
 
-// The same with memory for HELD_SMALL sets.
-fn renew_small(rows: &[u64], request: Request, all: Set, slots: &mut [u64]) -> usize
-    requires { Accepted (masks rows.now) (asked request) × Candidates (masks rows.now) (asked request) (mask all) }
-    ensures { Renews (masks rows.now) (asked request) (masks slots.old) (masks slots.new) result }
-{
-    let mut held = [0u64; HELD_SMALL * sets::WORDS];
-    renew_by(rows, request, all, &mut held, slots)
-}
-
-// The same with memory for HELD sets.
-fn renew_large(rows: &[u64], request: Request, all: Set, slots: &mut [u64]) -> usize
-    requires { Accepted (masks rows.now) (asked request) × Candidates (masks rows.now) (asked request) (mask all) }
-    ensures { Renews (masks rows.now) (asked request) (masks slots.old) (masks slots.new) result }
-{
-    let mut held = [0u64; HELD * sets::WORDS];
-    renew_by(rows, request, all, &mut held, slots)
-}
-
-// The same with as much memory as suits the candidates.
+// The same with as much memory as suits the candidates: a search among few of them may be over before more is emptied. At slack 1 a search takes less time.
 fn renew(rows: &[u64], request: Request, slots: &mut [u64]) -> usize
     requires { Accepted (masks rows.now) (asked request) }
     ensures { Renews (masks rows.now) (asked request) (masks slots.old) (masks slots.new) result }
 {
     let all = search::starting(rows, request, true);
-    let candidates = sets::size(all);
-    if is_tiny(request.slack, candidates) {
-        return renew_tiny(rows, request, all, slots);
+    let candidates = all.size();
+    let (tiny, small) = if request.slack == 1 {
+        (20, 48)
+    } else {
+        (9, 20)
+    };
+    if candidates < tiny {
+        return renew_with::<TINY>(rows, request, all, slots);
     }
-    if is_small(request.slack, candidates) {
-        return renew_small(rows, request, all, slots);
+    if candidates < small {
+        return renew_with::<SMALL>(rows, request, all, slots);
     }
-    renew_large(rows, request, all, slots)
+    renew_with::<LARGE>(rows, request, all, slots)
 }
 
 // The same for the changed graph, which is made in a table of its own: the rows keep their contents.
-fn renew_changed(
-    rows: &[u64],
-    request: Request,
-    a: usize,
-    b: usize,
-    adjacent: bool,
-    slots: &mut [u64],
-) -> usize
-    requires { Accepted (masks rows.now) (asked request) × Changeable (masks rows.now) (change a b adjacent) }
-    ensures { Renews (changed_graph (masks rows.now) (change a b adjacent)) (asked request)
+fn renew_changed(rows: &[u64], request: Request, change: Change, slots: &mut [u64]) -> usize
+    requires { Accepted (masks rows.now) (asked request) × Changeable (masks rows.now) (change_of change) }
+    ensures { Renews (changed_graph (masks rows.now) (change_of change)) (asked request)
         (masks slots.old) (masks slots.new) result }
 {
     let mut table = [0u64; sets::TABLE];
     let end = sets::offset(&table, sets::count(rows));
-    edge::copy_changed(rows, a, b, adjacent, &mut table[..end]);
+    change.copy_changed(rows, &mut table[..end]);
     renew(&table[..end], request, slots)
 }
 
@@ -131,18 +96,16 @@ pub fn change(
     b: usize,
     adjacent: bool,
     slots: &mut [u64],
-) -> ListFound
+) -> Result<usize, Refusal>
     ensures { Changes (masks rows.old) (asked request) (change a b adjacent) (masks slots.old)
         (masks rows.new) (masks slots.new) result }
 {
-    let checked = check::check_change(rows, request, a, b, adjacent);
-    if let Checked::Failed(f) = checked {
-        return ListFound::Refused(f);
-    }
-    let m = renew_changed(rows, request, a, b, adjacent, slots);
+    let change = Change { a, b, adjacent };
+    check::check_change(rows, request, change)?;
+    let m = renew_changed(rows, request, change, slots);
     if sets::count(slots) < m {
-        return ListFound::Refused(Refusal::Slots(m));
+        return Err(Refusal::Slots(m));
     }
-    edge::set_edge(rows, a, b, adjacent);
-    ListFound::Listed(m)
+    change.set_edge(rows);
+    Ok(m)
 }

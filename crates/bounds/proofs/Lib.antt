@@ -1,4 +1,5 @@
--- Laws that rest on those of specs/.
+-- Laws that rest on those of specs/, and one on words that hold sets.
+pub mod TableLaws
 pub mod SurveyStepLaws
 pub mod BoundSound
 pub mod OutcomeLaws

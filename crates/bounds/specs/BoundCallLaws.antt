@@ -12,7 +12,7 @@ use Rattle.sets.specs.SubsetLaws.{sub_with}
 use Rattle.judging.specs.Plex.{looseness}
 use Rattle.judging.specs.Refusal.{refused, Cause, first_cause, most_slack, set_cause, vertex_out_cause}
 use Rattle.judging.specs.Setting.{Judgeable}
-use Rattle.judging.specs.Calls.{refusal, passed, checked_reply, slack_check, set_check}
+use Rattle.judging.specs.Calls.{refusal, passed, slack_check, set_check}
 use Rattle.judging.specs.PlexLaws.{hereditary}
 use Rattle.judging.specs.LoosenessLaws.{loose_plex}
 use Rattle.judging.specs.RefusalLaws.{first_holds, first_skips, passed_head, passed_tail, passed_front, passed_back}
@@ -20,8 +20,6 @@ use Rattle.judging.specs.RefusalLaws.{slack_accepted, set_below, vertex_below}
 use Rattle.judging.proofs.PassedLaws.{set_checked}
 use Rattle.judging.specs.CallLaws.{set-outside, set_inside, front_refused, front_accepted}
 use Rattle.judging.specs.declared.Refusal.{Refusal}
-use Rattle.judging.specs.declared.Checked.{Checked}
-use Rattle.judging.specs.declared.Checked.TheVariants.{Passed, Failed}
 use Rattle.bounds.specs.BoundCalls.{overlap, misplaced, bound_cause, bound_check}
 use Rattle.bounds.specs.BoundSetting.{Boundable}
 
@@ -65,23 +63,23 @@ module _ (g : List ℕ) (k s c v : ℕ) where
   unfolding bound_check set_check places
   set_first = sym (append_assoc (slack_check g k) (set_cause g s ∷ []) (set_cause g c ∷ places))
 
-  -- r is what the checks of s say, n the number of vertices, and b whether c is below it
-  module _ {r : Checked} (h : checked_reply r ≡ first_cause (set_check g k s) passed) where
-    pub set_refused : {f : Refusal} → r ≡ Failed f → refusal f ≡ first_cause (bound_check g k s c v) passed
-    set_refused e = rw set_first (front_refused (set_check g k s) (set_cause g c ∷ places) passed h e)
+  pub set_refused : (f : Refusal) → refusal f ≡ first_cause (set_check g k s) passed → refusal f ≡ first_cause (bound_check g k s c v) passed
+  set_refused f h = rw set_first (front_refused (set_check g k s) (set_cause g c ∷ places) passed f h)
 
-    module _ (e : r ≡ Passed) {n : ℕ} (count : n ≡ length g) {b : Bool} (below : b ≡ nat_lt c (2 ^ n)) where
+  -- s has passed; n is the number of vertices, and b whether c is below it
+  module _ (h : passed ≡ first_cause (set_check g k s) passed) where
+    module _ {n : ℕ} (count : n ≡ length g) {b : Bool} (below : b ≡ nat_lt c (2 ^ n)) where
       rest : first_cause (bound_check g k s c v) passed ≡ first_cause (set_cause g c ∷ places) passed
-      rest = ap (λ (cs : List Cause). first_cause cs passed) set_first ∙ front_accepted (set_check g k s) (set_cause g c ∷ places) passed h e
+      rest = ap (λ (cs : List Cause). first_cause cs passed) set_first ∙ front_accepted (set_check g k s) (set_cause g c ∷ places) passed h
 
       tested : b ≡ nat_lt c (2 ^ length g)
       tested = below ∙ ap (λ (m : ℕ). ltb c (2 ^ m)) count
 
-      pub candidates_refused : not b ≡ true → refused 7 0 ≡ first_cause (bound_check g k s c v) passed
+      pub candidates_refused : b ≡ false → refused 7 0 ≡ first_cause (bound_check g k s c v) passed
       unfolding set_cause
       candidates_refused t = sym (rest ∙ first_holds (set_cause g c) places passed (set-outside g c b tested t))
 
-      module _ (inside : not b ≡ false) where
+      module _ (inside : b ≡ true) where
         after : first_cause (bound_check g k s c v) passed ≡ first_cause places passed
         after = rest ∙ first_skips (set_cause g c) places passed (set_inside g c b tested inside)
 

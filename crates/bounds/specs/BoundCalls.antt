@@ -9,10 +9,8 @@ use Rattle.std.specs.Prelude.{ℕ, Bool, not, ◌||◌, List, [], ◌∷◌, ◌
 use Rattle.sets.specs.Set.{has, with}
 use Rattle.judging.specs.Plex.{looseness}
 use Rattle.judging.specs.Refusal.{Reply, answered, Cause, cause, first_cause, set_cause, vertex_out_cause}
-use Rattle.judging.specs.Calls.{refusal, slack_check}
+use Rattle.judging.specs.Calls.{slack_check}
 use Rattle.bounds.specs.Bound.{first_bound, second_bound}
-use Rattle.bounds.specs.declared.BoundFound.{BoundFound}
-use Rattle.bounds.specs.declared.BoundFound.TheVariants.{Bound, Refused}
 
 unfoldable pub overlap : ℕ → ℕ → Bool
 overlap s c = not (bit_and s c == 0)
@@ -25,10 +23,6 @@ bound_cause g k s c v = cause (misplaced g k s c v) 10 0
 
 unfoldable pub bound_check : List ℕ → ℕ → ℕ → ℕ → ℕ → List Cause
 bound_check g k s c v = slack_check g k ++ set_cause g s ∷ set_cause g c ∷ vertex_out_cause g v ∷ bound_cause g k s c v ∷ []
-
-abbrev pub bound_found_reply : BoundFound → Reply ℕ
-bound_found_reply (Bound b) = answered 0 b
-bound_found_reply (Refused f) = refusal f
 
 unfoldable pub first_bound_reply : List ℕ → ℕ → ℕ → ℕ → ℕ → Reply ℕ
 first_bound_reply g k s c v = first_cause (bound_check g k s c v) (answered 0 (first_bound g k s c v))

@@ -5,33 +5,28 @@ use Rattle.std.proofs.Math.Path.{sym, ap}
 use Rattle.sets.specs.Set.{full}
 use Rattle.std.proofs.lemmas.Bool.{lt-leb}
 use Rattle.judging.specs.Refusal.{refused, answered, first_cause, vertex_out_cause}
-use Rattle.judging.specs.Calls.{refusal, passed, checked_reply, graph_check, floor_check}
+use Rattle.judging.specs.Calls.{refusal, passed, graph_check, floor_check}
 use Rattle.judging.specs.Graph.{Valid}
 use Rattle.judging.specs.Setting.{Sized, LowRows}
 use Rattle.judging.specs.RefusalLaws.{first_holds, first_skips}
 use Rattle.judging.specs.RefusalLaws.{graph_sized, graph_checked, slack_graph, slack_accepted, floor_slack, floor_accepted}
-use Rattle.judging.specs.CallLaws.{none_holds, front_refused, front_accepted}
+use Rattle.judging.specs.CallLaws.{front_refused, front_accepted}
 use Rattle.judging.specs.declared.Refusal.{Refusal}
-use Rattle.judging.specs.declared.Checked.{Checked}
-use Rattle.judging.specs.declared.Checked.TheVariants.{Passed, Failed}
 use Rattle.bounds.specs.Core.{core, passes, Peeling, peeling}
 use Rattle.bounds.specs.Reach.{reach}
 use Rattle.bounds.specs.Calls.{reach_check, reach_reply}
 
 -- ---- the core
 
-module _ (g : List ℕ) (k q : ℕ) {r : Checked} (h : checked_reply r ≡ first_cause (floor_check g k q) passed) (e : r ≡ Passed) where
-  none : first_cause (floor_check g k q) passed ≡ passed
-  none = none_holds _ r h e
-
+module _ (g : List ℕ) (k q : ℕ) (h : passed ≡ first_cause (floor_check g k q) passed) where
   graph_passed : first_cause (graph_check g) passed ≡ passed
-  graph_passed = slack_graph g k (floor_slack g k q none)
+  graph_passed = slack_graph g k (floor_slack g k q (sym h))
 
   pub core_peelable : Sized g × Valid g
   core_peelable = (graph_sized g graph_passed, graph_checked g graph_passed)
 
   pub core_floor : k ≤ q
-  core_floor = omega (arith, slack_accepted g k (floor_slack g k q none), floor_accepted g k q none)
+  core_floor = omega (arith, slack_accepted g k (floor_slack g k q (sym h)), floor_accepted g k q (sym h))
 
 pub peeling_found : (g : List ℕ) (m : ℕ) {c n : ℕ} → (c ≡ core g m) × (n ≡ passes g m (full (length g)))
     → ◌≡◌ {A = Peeling} (record { core = c; passes = n }) (peeling g m)
@@ -41,21 +36,20 @@ peeling_found g m {c} {n} h =
 
 -- ---- the reach: the vertex is looked at after the table
 
-module _ (g : List ℕ) (v : ℕ) {r : Checked} (h : checked_reply r ≡ first_cause (graph_check g) passed) where
-  pub reach_refused : {f : Refusal} → r ≡ Failed f → refusal f ≡ reach_reply g v
+module _ (g : List ℕ) (v : ℕ) where
+  pub reach_refused : (f : Refusal) → refusal f ≡ first_cause (graph_check g) passed → refusal f ≡ reach_reply g v
   unfolding reach_reply reach_check
-  reach_refused e = front_refused (graph_check g) (vertex_out_cause g v ∷ []) (answered 0 (reach g v)) h e
+  reach_refused f h = front_refused (graph_check g) (vertex_out_cause g v ∷ []) (answered 0 (reach g v)) f h
 
-  module _ (e : r ≡ Passed) where
+  module _ (h : passed ≡ first_cause (graph_check g) passed) where
     only_vertex : reach_reply g v ≡ first_cause (vertex_out_cause g v ∷ []) (answered 0 (reach g v))
     unfolding reach_reply reach_check
-    only_vertex = front_accepted (graph_check g) (vertex_out_cause g v ∷ []) (answered 0 (reach g v)) h e
+    only_vertex = front_accepted (graph_check g) (vertex_out_cause g v ∷ []) (answered 0 (reach g v)) h
 
     pub reach_ready : v < length g → LowRows g × (v < length g)
     reach_ready l =
-        let none = none_holds _ r h e in
-        let z = graph_sized g none in
-        (record { some = z.some; most = z.most; low = (graph_checked g none).low }, l)
+        let z = graph_sized g (sym h) in
+        (record { some = z.some; most = z.most; low = (graph_checked g (sym h)).low }, l)
 
     pub reach-outside_refused : length g ≤ v → refused 7 0 ≡ reach_reply g v
     unfolding vertex_out_cause

@@ -3,27 +3,26 @@
 --   core_reply g k q   the core of the graph for the slack k and the floor q, and the passes that peel it out
 --   reach_reply g v    the two-hop reach of the vertex v
 --   core_found_reply, reach_found_reply   the answers of the code as replies
-use Rattle.std.specs.Prelude.{ℕ, ◌-◌, List, [], ◌∷◌, ◌++◌}
+use Rattle.std.specs.Prelude.{ℕ, ◌-◌, List, [], ◌∷◌, ◌++◌, Result, Ok, Err}
 use Rattle.sets.specs.Words.{mask}
 use Rattle.judging.specs.Refusal.{Reply, answered, Cause, first_cause, vertex_out_cause}
+use Rattle.sets.specs.declared.Set.{Set}
+use Rattle.judging.specs.declared.Refusal.{Refusal}
 use Rattle.judging.specs.Calls.{refusal, graph_check, floor_check}
 use Rattle.bounds.specs.Core.{Peeling, peeling}
 use Rattle.bounds.specs.Reach.{reach}
-use Rattle.bounds.specs.declared.CoreFound.{CoreFound}
-use Rattle.bounds.specs.declared.CoreFound.TheVariants as coreFound
-use Rattle.bounds.specs.declared.ReachFound.{ReachFound}
-use Rattle.bounds.specs.declared.ReachFound.TheVariants as reachFound
+use Rattle.bounds.specs.declared.cores.Peeled.{Peeled}
 
-abbrev pub core_found_reply : CoreFound → Reply Peeling
-core_found_reply (coreFound.Core p) = answered 0 (record { core = mask p.core; passes = p.passes })
-core_found_reply (coreFound.Refused f) = refusal f
+abbrev pub core_found_reply : Result Peeled Refusal → Reply Peeling
+core_found_reply (Ok p) = answered 0 (record { core = mask p.core; passes = p.passes })
+core_found_reply (Err f) = refusal f
 
 unfoldable pub core_reply : List ℕ → ℕ → ℕ → Reply Peeling
 core_reply g k q = first_cause (floor_check g k q) (answered 0 (peeling g (q - k)))
 
-abbrev pub reach_found_reply : ReachFound → Reply ℕ
-reach_found_reply (reachFound.Reach s) = answered 0 (mask s)
-reach_found_reply (reachFound.Refused f) = refusal f
+abbrev pub reach_found_reply : Result Set Refusal → Reply ℕ
+reach_found_reply (Ok s) = answered 0 (mask s)
+reach_found_reply (Err f) = refusal f
 
 -- 1, 4, 5, 7
 unfoldable pub reach_check : List ℕ → ℕ → List Cause

@@ -12,7 +12,7 @@ ghost use Rattle.bounds.specs.PassSetting.{Doubtable, Passes};
 use sets::Set;
 
 // The core, and the number of passes that it took.
-#[derive(Clone, Copy)]
+#[derive(Clone, Copy, PartialEq, Eq)]
 pub struct Peeled {
     pub core: Set,
     pub passes: usize,
@@ -30,7 +30,7 @@ fn degree(rows: &[u64], s: Set, v: usize) -> usize
     requires { v < length (masks rows.now) }
     ensures { (result ≡ degree (masks rows.now) (mask s) v) × (result ≤ width) }
 {
-    sets::size(sets::meet(s, sets::get(rows, v)))
+    s.meet(sets::get(rows, v)).size()
 }
 
 // One pass through s by rising number: takes out each vertex that is adjacent to fewer than m of those still left, before it looks at the next. No vertex
@@ -40,17 +40,15 @@ fn first_pass(rows: &[u64], m: usize, s: Set) -> Passed
     ensures { Passes (masks rows.now) m (mask s) (mask result.kept) (mask result.doubt) }
 {
     let mut kept = s;
-    let mut doubt = sets::empty();
-    let mut v = 0;
-    while v < sets::count(rows) {
+    let mut doubt = Set::empty();
+    for v in 0..sets::count(rows) {
         if degree(rows, kept, v) < m {
-            kept = sets::without(kept, v);
-            doubt = sets::join(doubt, sets::meet(kept, sets::get(rows, v)));
+            kept = kept.without(v);
+            doubt = doubt.join(kept.meet(sets::get(rows, v)));
         }
-        v += 1;
     }
     // what was taken out after it came into doubt is not looked at again
-    let left = sets::meet(kept, doubt);
+    let left = kept.meet(doubt);
     Passed { kept, doubt: left }
 }
 
@@ -62,17 +60,17 @@ fn later_pass(rows: &[u64], m: usize, s: Set, doubted: Set) -> Passed
 {
     let mut kept = s;
     let mut left = doubted;
-    let mut next = sets::empty();
-    while !sets::is_empty(left) {
-        let v = sets::lowest(left);
-        left = sets::rest(left, v);
+    let mut next = Set::empty();
+    while !left.is_empty() {
+        let v = left.lowest();
+        left = left.rest(v);
         let near = degree(rows, kept, v);
         if near < m {
-            kept = sets::without(kept, v);
-            let lost = sets::meet(kept, sets::get(rows, v));
-            let seen = sets::full(v + 1);
-            left = sets::join(left, sets::minus(lost, seen));
-            next = sets::join(next, sets::meet(lost, seen));
+            kept = kept.without(v);
+            let lost = kept.meet(sets::get(rows, v));
+            let seen = Set::full(v + 1);
+            left = left.join(lost.minus(seen));
+            next = next.join(lost.meet(seen));
         }
     }
     Passed { kept, doubt: next }
@@ -85,15 +83,11 @@ fn peel_from(rows: &[u64], m: usize, start: Set) -> Peeled
         × (result.passes ≡ passes (masks rows.now) m (mask start)) }
 {
     let mut s = start;
-    let first = first_pass(rows, m, s);
-    let mut kept = first.kept;
-    let mut doubt = first.doubt;
+    let mut passed = first_pass(rows, m, s);
     let mut passes = 1;
-    while !sets::same(kept, s) {
-        s = kept;
-        let next = later_pass(rows, m, s, doubt);
-        kept = next.kept;
-        doubt = next.doubt;
+    while passed.kept != s {
+        s = passed.kept;
+        passed = later_pass(rows, m, s, passed.doubt);
         passes += 1;
     }
     Peeled { core: s, passes }
@@ -105,7 +99,7 @@ pub fn peel(rows: &[u64], m: usize) -> Peeled
     ensures { (mask result.core ≡ core (masks rows.now) m)
         × (result.passes ≡ passes (masks rows.now) m (full (length (masks rows.now)))) }
 {
-    peel_from(rows, m, sets::full(sets::count(rows)))
+    peel_from(rows, m, Set::full(sets::count(rows)))
 }
 
 // The core alone.

@@ -12,11 +12,11 @@ pub fn reach(rows: &[u64], v: usize) -> Set
     ensures { mask result ≡ reach (masks rows.now) v }
 {
     let mut left = sets::get(rows, v);
-    let mut found = sets::with(left, v);
-    while !sets::is_empty(left) {
-        let w = sets::lowest(left);
-        found = sets::join(found, sets::get(rows, w));
-        left = sets::rest(left, w);
+    let mut found = left.with(v);
+    while !left.is_empty() {
+        let w = left.lowest();
+        found = found.join(sets::get(rows, w));
+        left = left.rest(w);
     }
     found
 }

@@ -1,55 +1,26 @@
--- Laws of lines: a text that is not empty is its first line and the lines of the rest, and what the code tells of a line is its kind. The records say what
--- the loops over bytes know at each turn.
-use Rattle.std.specs.Prelude.{ℕ, suc, ◌+◌, ◌-◌, ◌≤◌, ◌<◌, ◌≡◌, refl, Bool, true, false, not, eqb, leb, ltb, length, get_or, take, drop, ◌⊎◌}
-use Rattle.std.proofs.Common.{not-suc-le-zero, le_refl, arith, add-one, ◌∙◌, le-leb, lt-ltb, le-ltb, eq-eqb, ne_eqb, length-drop, drop_of_length-le, drop-cons, drop-drop, inl, inr}
-use Rattle.std.proofs.Math.Nat.{add-zero}
-use Rattle.std.proofs.Math.Decide.{ℕ_discrete, dec_le, dec_lt}
+-- Laws of lines: a text that is not empty is its first line and the lines of the rest, and what the code tells of a line is its kind.
+use Rattle.std.specs.Prelude.{ℕ, suc, ◌+◌, ◌-◌, ◌≤◌, ◌<◌, ◌≡◌, refl, Bool, true, false, eqb, leb, ltb, length, take, drop, Option, None, Some}
+use Rattle.std.proofs.Common.{not-suc-le-zero, le_refl, arith, one-add, ◌∙◌, le-leb, lt-ltb, le-ltb, eq-eqb, ne_eqb}
+use Rattle.std.proofs.Common.{ltb-true, ltb-false, length-drop, drop_of_length-le, drop-drop}
+use Rattle.std.proofs.Math.Decide.{dec_le, dec_lt}
 use Rattle.std.proofs.Math.Path.{sym, ap, ap₂}
 use Rattle.std.proofs.Math.Bool.{◌&&◌, cond}
 use mathlib.Core.List.{List, [], ◌∷◌}
-use Rattle.std.proofs.lemmas.Bool.{lt-leb, not-true, not-false}
+use Rattle.std.proofs.lemmas.Bool.{lt-leb}
+use Rattle.std.specs.Cmp.Lexicographic.{pointwise}
+use Rattle.std.specs.List.{position, position_or_len}
+use Rattle.std.proofs.lemmas.List.Recursion.{is_position_or_len}
 use borrow.Author.Rules.{part_to_end}
 use Rattle.sets.specs.RangeLaws.{true_is_not_false}
 use Rattle.sheets.specs.Lines.{newline}
 use Rattle.dimacs.specs.Figures.{number, is_figure}
 use Rattle.dimacs.specs.Lines.{before, line, onto, lines, Kind, comment, problem, edge, other, blank, letter_c, letter_e, letter_p, most_edges}
 use Rattle.dimacs.specs.Lines.{problem_word, edge_word, starts, first_field, second_field, is_pair, problem_kind, edge_kind, behind, shape_of, kind_of}
-use Rattle.dimacs.specs.Setting.{no_figure, capped, figure_value, kind_told, capped_kind, line_length, first_line, FirstLine}
-use Rattle.dimacs.specs.FigureLaws.{figure_empty}
+use Rattle.dimacs.specs.Setting.{capped, figure_value, fields_value, kind_told, capped_kind, line_length, first_line, FirstLine}
+use Rattle.dimacs.specs.FigureLaws.{none_cond, some_cond, figure_none, figure_some, figure_empty}
 use Rattle.dimacs.specs.declared.lines.Kind.{Kind as ToldKind}
-use Rattle.dimacs.specs.declared.lines.Kind.TheVariants.{Other}
 
--- ---- bytes looked at one after the other, for the first byte b
-
-pub record Seeking (b : ℕ) (t : List ℕ) (i : ℕ) : Type 0 where
-  pub upto : i ≤ length t
-  pub rest : before b t ≡ i + before b (drop i t)
-
-pub seeking_none : {b : ℕ} {t : List ℕ} → Seeking b t 0
-seeking_none = record { upto = omega arith; rest = omega arith }
-
-module _ {b : ℕ} {t : List ℕ} {i : ℕ} (h : Seeking b t i) where
-  -- by what the next byte is
-  seeking_by : {x : Bool} → i < length t → eqb (get_or t i 0) b ≡ x → before b t ≡ i + cond x 0 (suc (before b (drop (suc i) t)))
-  unfolding before
-  seeking_by l e =
-      h.rest ∙ ap (λ (u : List ℕ). i + before b u) (drop-cons t i 0 l) ∙ ap (λ (x : Bool). i + cond x 0 (suc (before b (drop (suc i) t)))) e
-
-  pub seeking_more : i < length t → (get_or t i 0 ≡ b → ⊥) → Seeking b t (i + 1)
-  seeking_more l f =
-      record {
-        upto = omega arith;
-        rest =
-            seeking_by l (ne_eqb (get_or t i 0) b f)
-            ∙ omega (arith, ap (λ (j : ℕ). before b (drop j t)) (add-one i));
-      }
-
-  pub seeking_stop : i < length t → get_or t i 0 ≡ b → i ≡ before b t
-  seeking_stop l e = sym (seeking_by l (eq-eqb (get_or t i 0) b e) ∙ add-zero i)
-
-  pub seeking_all : length t ≤ i → i ≡ before b t
-  unfolding before
-  seeking_all l = sym (h.rest ∙ ap (λ (u : List ℕ). i + before b u) (drop_of_length-le t l) ∙ add-zero i)
+-- ---- the first byte b
 
 pub before_most : (b : ℕ) (t : List ℕ) → before b t ≤ length t
 unfolding before
@@ -60,14 +31,25 @@ before_most b (x ∷ t) = go (eqb x b) (before_most b t)
     go true l = omega arith
     go false l = omega arith
 
--- ---- bytes compared one after the other with those of p
+-- as the library looks for it
+module _ (b : ℕ) (t : List ℕ) where
+  before-position_or_len : before b t ≡ position_or_len (λ x. eqb x b) t
+  unfolding before
+  before-position_or_len = is_position_or_len (before b) (λ x. eqb x b) refl (λ x xs. ap (cond (eqb x b) 0) (sym (one-add (before b xs)))) t
 
-pub record Comparing (p t : List ℕ) (i : ℕ) : Type 0 where
-  pub upto : i ≤ length p
-  pub rest : starts p t ≡ starts (drop i p) (drop i t)
+  position_by : position (λ x. eqb x b) t ≡ cond (ltb (before b t) (length t)) (Some (before b t)) None
+  position_by = ap (λ (n : ℕ). cond (ltb n (length t)) (Some n) None) (sym before-position_or_len)
 
-pub comparing_none : {p t : List ℕ} → Comparing p t 0
-comparing_none = record { upto = omega arith; rest = refl }
+  pub position_none : None ≡ position (λ x. eqb x b) t → length t ≤ before b t
+  position_none e = ltb-false (before b t) (length t) (none_cond (ltb (before b t) (length t)) _ (e ∙ position_by))
+
+  pub position_some : {i : ℕ} → Some i ≡ position (λ x. eqb x b) t → (i ≡ before b t) × (i < length t)
+  position_some {i} e =
+      let p = some_cond (ltb (before b t) (length t)) _ _ (e ∙ position_by) in
+      let l = ltb-true (before b t) (length t) p.0 in
+      (p.1, omega (arith, p.1, l))
+
+-- ---- what a text begins with
 
 pub starts_short : (p t : List ℕ) → length t < length p → false ≡ starts p t
 unfolding starts
@@ -79,27 +61,6 @@ starts_short (b ∷ p) (x ∷ t) l = go (eqb x b) (starts_short p t (omega arith
     go true q = q
     go false q = refl
 
-module _ {p t : List ℕ} {i : ℕ} (h : Comparing p t i) (l : i < length p) (k : length p ≤ length t) where
-  comparing_by : {x : Bool} → eqb (get_or t i 0) (get_or p i 0) ≡ x → starts p t ≡ (x && starts (drop (suc i) p) (drop (suc i) t))
-  unfolding starts
-  comparing_by e =
-      h.rest ∙ ap₂ starts (drop-cons p i 0 l) (drop-cons t i 0 (omega arith))
-      ∙ ap (λ (x : Bool). x && starts (drop (suc i) p) (drop (suc i) t)) e
-
-  pub comparing_more : get_or t i 0 ≡ get_or p i 0 → Comparing p t (i + 1)
-  comparing_more e =
-      record {
-        upto = omega arith;
-        rest = comparing_by (eq-eqb (get_or t i 0) (get_or p i 0) e) ∙ ap (λ (j : ℕ). starts (drop j p) (drop j t)) (sym (add-one i));
-      }
-
-  pub comparing_stop : (get_or t i 0 ≡ get_or p i 0 → ⊥) → false ≡ starts p t
-  comparing_stop f = sym (comparing_by (ne_eqb (get_or t i 0) (get_or p i 0) f))
-
-pub comparing_all : {p t : List ℕ} {i : ℕ} → Comparing p t i → length p ≤ i → true ≡ starts p t
-unfolding starts
-comparing_all {p} {t} {i} h l = sym (h.rest ∙ ap (λ (u : List ℕ). starts u (drop i t)) (drop_of_length-le p l))
-
 -- what a text begins with is no longer than it
 pub starts_fits : (p t : List ℕ) → starts p t ≡ true → length p ≤ length t
 starts_fits p t e = go (dec_le (length p) (length t))
@@ -108,9 +69,12 @@ starts_fits p t e = go (dec_le (length p) (length t))
     go (yes l) = l
     go (no nl) = absurd (true_is_not_false (sym e ∙ sym (starts_short p t (omega arith))))
 
-and_false : (b : Bool) → (b && false) ≡ false
-and_false true = refl
-and_false false = refl
+-- as the library compares it
+pub starts-pointwise : (p t : List ℕ) → pointwise eqb (take (length p) t) p ≡ starts p t
+unfolding starts
+starts-pointwise [] t = refl
+starts-pointwise (b ∷ p) [] = refl
+starts-pointwise (b ∷ p) (x ∷ t) = ap (λ (r : Bool). eqb x b && r) (starts-pointwise p t)
 
 -- ---- the first line, and the others
 
@@ -141,31 +105,13 @@ lines_first (b ∷ t) l = go (eqb b newline) (ahead b t (lines_first t))
     go true h = ap (λ (x : Bool). line [] x ∷ lines t) (sym (lt-ltb 0 (suc (length t)) (omega arith)))
     go false h = h ∙ ap (λ (x : Bool). line (b ∷ take (line_length t) t) x ∷ lines (drop (suc (line_length t)) t)) (sym (ltb_suc (line_length t) (length t)))
 
--- ---- what the code tells of a line
+-- ---- two figures
+
+and_false : (b : Bool) → (b && false) ≡ false
+and_false true = refl
+and_false false = refl
 
 module _ (t : List ℕ) where
-  -- by whether it is a figure
-  figure_by : (b : Bool) → is_figure t ≡ b → figure_value t ≡ cond b (capped (number t)) no_figure
-  unfolding figure_value
-  figure_by b e = ap (λ (x : Bool). cond x (capped (number t)) no_figure) e
-
-  figure_none : figure_value t ≡ no_figure → is_figure t ≡ false
-  figure_none e = go (is_figure t) refl
-    where
-      go : (b : Bool) → is_figure t ≡ b → is_figure t ≡ false
-      go true q = absurd (omega (arith, e, figure_by true q))
-      go false q = q
-
-  figure_some : (figure_value t ≡ no_figure → ⊥) → (is_figure t ≡ true) × (figure_value t ≡ capped (number t))
-  figure_some f = go (is_figure t) refl
-    where
-      go : (b : Bool) → is_figure t ≡ b → (is_figure t ≡ true) × (figure_value t ≡ capped (number t))
-      go true q = (q, figure_by true q)
-      go false q = absurd (f (figure_by false q))
-
--- ---- two figures: x and y are what the code tells of the fields
-
-module _ (t : List ℕ) {x y : ℕ} (p : x ≡ figure_value (first_field t)) (q : y ≡ figure_value (second_field t)) where
   abbrev first : List ℕ
   first = first_field t
 
@@ -176,20 +122,22 @@ module _ (t : List ℕ) {x y : ℕ} (p : x ≡ figure_value (first_field t)) (q 
   unfolding is_pair
   pair_by e f = ap₂ ◌&&◌ e f
 
-  no_first : x ≡ no_figure → is_pair t ≡ false
-  no_first e = pair_by (figure_none first (sym p ∙ e)) refl
+  -- by whether there are two
+  fields_by : (b : Bool) → is_pair t ≡ b → fields_value t ≡ cond b (Some (capped (number first), capped (number second))) None
+  unfolding fields_value
+  fields_by b e = ap (λ (z : Bool). cond z (Some (capped (number first), capped (number second))) None) e
 
-  no_second : y ≡ no_figure → is_pair t ≡ false
-  no_second e = pair_by {a = is_figure first} refl (figure_none second (sym q ∙ e)) ∙ and_false (is_figure first)
+  pub first_none : None ≡ figure_value first → None ≡ fields_value t
+  first_none e = sym (fields_by false (pair_by (figure_none first e) refl))
 
-  pair_is : (x ≡ no_figure → ⊥) → (y ≡ no_figure → ⊥) → is_pair t ≡ true
-  pair_is f g = pair_by (figure_some first (λ e. f (p ∙ e))).0 (figure_some second (λ e. g (q ∙ e))).0
+  pub second_none : None ≡ figure_value second → None ≡ fields_value t
+  second_none e = sym (fields_by false (pair_by {a = is_figure first} refl (figure_none second e) ∙ and_false (is_figure first)))
 
-  first_is : (x ≡ no_figure → ⊥) → x ≡ capped (number first)
-  first_is f = p ∙ (figure_some first (λ e. f (p ∙ e))).1
-
-  second_is : (y ≡ no_figure → ⊥) → y ≡ capped (number second)
-  second_is g = q ∙ (figure_some second (λ e. g (q ∙ e))).1
+  pub both_some : {x y : ℕ} → Some x ≡ figure_value first → Some y ≡ figure_value second → Some (x, y) ≡ fields_value t
+  both_some e f =
+      let p = figure_some first e in
+      let q = figure_some second f in
+      ap₂ (λ (x y : ℕ). Some (x, y)) p.1 q.1 ∙ sym (fields_by true (pair_by p.0 q.0))
 
   -- ---- behind the e
 
@@ -197,12 +145,15 @@ module _ (t : List ℕ) {x y : ℕ} (p : x ≡ figure_value (first_field t)) (q 
   unfolding edge_kind
   edge_by b e = ap (λ (z : Bool). cond z (edge (number first) (number second)) other) e
 
-  pub edge_other : (x ≡ no_figure) ⊎ (y ≡ no_figure) → other ≡ capped_kind (edge_kind t)
-  edge_other (inl e) = sym (ap capped_kind (edge_by false (no_first e)))
-  edge_other (inr e) = sym (ap capped_kind (edge_by false (no_second e)))
+  pub edge_other : None ≡ fields_value t → other ≡ capped_kind (edge_kind t)
+  unfolding fields_value
+  edge_other e = sym (ap capped_kind (edge_by false (none_cond (is_pair t) _ e)))
 
-  pub edge_told : (x ≡ no_figure → ⊥) → (y ≡ no_figure → ⊥) → edge x y ≡ capped_kind (edge_kind t)
-  edge_told f g = ap₂ edge (first_is f) (second_is g) ∙ sym (ap capped_kind (edge_by true (pair_is f g)))
+  pub edge_told : {x y : ℕ} → Some (x, y) ≡ fields_value t → edge x y ≡ capped_kind (edge_kind t)
+  unfolding fields_value
+  edge_told e =
+      let p = some_cond (is_pair t) _ _ e in
+      ap (λ (q : ℕ × ℕ). edge q.0 q.1) p.1 ∙ sym (ap capped_kind (edge_by true p.0))
 
   -- ---- behind the p
 
@@ -211,24 +162,27 @@ module _ (t : List ℕ) {x y : ℕ} (p : x ≡ figure_value (first_field t)) (q 
   unfolding problem_kind
   problem_by b c e f = ap₂ (λ (z w : Bool). cond (z && w) (problem (number first) (number second)) other) e f
 
-  pub problem_other : x ≡ no_figure → other ≡ capped_kind (problem_kind t)
-  problem_other e = sym (ap capped_kind (problem_by false _ (no_first e) refl))
+  pub problem_other : None ≡ fields_value t → other ≡ capped_kind (problem_kind t)
+  unfolding fields_value
+  problem_other e = sym (ap capped_kind (problem_by false _ (none_cond (is_pair t) _ e) refl))
 
-  -- y is above every m: no figure, or the number above them
-  pub problem_large : (x ≡ no_figure → ⊥) → most_edges < y → other ≡ capped_kind (problem_kind t)
-  problem_large f l = go (ℕ_discrete y no_figure)
-    where
-      go : Dec (y ≡ no_figure) → other ≡ capped_kind (problem_kind t)
-      go (yes e) = sym (ap capped_kind (problem_by false _ (no_second e) refl))
-      go (no ne) =
-          sym (ap capped_kind (problem_by true false (pair_is f ne) (lt-leb (number second) most_edges (omega (arith, second_is ne)))))
+  module _ {x y : ℕ} (e : Some (x, y) ≡ fields_value t) where
+    told : (is_pair t ≡ true) × ◌≡◌ {A = ℕ × ℕ} (x, y) (capped (number first), capped (number second))
+    unfolding fields_value
+    told = some_cond (is_pair t) _ _ e
 
-  pub problem_told : (x ≡ no_figure → ⊥) → y ≤ most_edges → problem x y ≡ capped_kind (problem_kind t)
-  problem_told f l =
-      let small : (y ≡ no_figure → ⊥) = λ e. omega arith in
-      let whole : y ≡ number second = omega (arith, second_is small) in
-      ap₂ problem (first_is f) whole
-      ∙ sym (ap capped_kind (problem_by true true (pair_is f small) (le-leb (number second) most_edges (omega arith))))
+    second_is : y ≡ capped (number second)
+    second_is = ap (λ (q : ℕ × ℕ). q.1) told.1
+
+    pub problem_large : most_edges < y → other ≡ capped_kind (problem_kind t)
+    problem_large l =
+        sym (ap capped_kind (problem_by true false told.0 (lt-leb (number second) most_edges (omega (arith, second_is)))))
+
+    pub problem_told : y ≤ most_edges → problem x y ≡ capped_kind (problem_kind t)
+    problem_told l =
+        let whole : y ≡ number second = omega (arith, second_is) in
+        ap₂ problem (ap (λ (q : ℕ × ℕ). q.0) told.1) whole
+        ∙ sym (ap capped_kind (problem_by true true told.0 (le-leb (number second) most_edges (omega arith))))
 
 -- ---- behind a letter, and at the first byte
 
@@ -237,102 +191,91 @@ module _ (p : List ℕ) (f : List ℕ → Kind) (t : List ℕ) where
   unfolding behind
   behind_by b e = ap (λ (z : Bool). cond z (f (drop (length p) t)) other) e
 
-  pub behind_other : {b : Bool} → b ≡ starts p t → not b ≡ true → other ≡ capped_kind (behind p f t)
-  behind_other {b} e n = sym (ap capped_kind (behind_by false (sym e ∙ not-true b n)))
+  pub behind_other : pointwise eqb (take (length p) t) p ≡ false → other ≡ capped_kind (behind p f t)
+  behind_other e = sym (ap capped_kind (behind_by false (sym (starts-pointwise p t) ∙ e)))
 
-  pub behind_told : {b : Bool} {k : Kind} → b ≡ starts p t → not b ≡ false
-      → k ≡ capped_kind (f (take (length t - length p) (drop (length p) t))) → k ≡ capped_kind (behind p f t)
-  behind_told {b} e n h = h ∙ ap (λ (u : List ℕ). capped_kind (f u)) (part_to_end t (length p)) ∙ sym (ap capped_kind (behind_by true (sym e ∙ not-false b n)))
-
-module _ (t : List ℕ) (l : 0 < length t) where
-  -- the line by its first byte
-  shape_at : shape_of t ≡ shape_of (get_or t 0 0 ∷ drop 1 t)
-  shape_at = ap shape_of (drop-cons t 0 0 l)
-
-  shape_by : (c p e : Bool) → eqb (get_or t 0 0) letter_c ≡ c → eqb (get_or t 0 0) letter_p ≡ p → eqb (get_or t 0 0) letter_e ≡ e
-      → shape_of t ≡ cond c comment (cond p (behind problem_word problem_kind (drop 1 t)) (cond e (behind edge_word edge_kind (drop 1 t)) other))
-  unfolding shape_of
-  shape_by c p e h i j =
-      shape_at
-      ∙ ap (λ (z : Bool). cond z comment (cond (eqb (get_or t 0 0) letter_p) (behind problem_word problem_kind (drop 1 t))
-      (cond (eqb (get_or t 0 0) letter_e) (behind edge_word edge_kind (drop 1 t)) other))) h
-      ∙ ap₂ (λ (z w : Bool). cond c comment (cond z (behind problem_word problem_kind (drop 1 t)) (cond w (behind edge_word edge_kind (drop 1 t)) other))) i j
-
-  pub shape_comment : get_or t 0 0 ≡ letter_c → comment ≡ capped_kind (shape_of t)
-  shape_comment e = sym (ap capped_kind (shape_by true _ _ (eq-eqb (get_or t 0 0) letter_c e) refl refl))
-
-  pub shape_problem : {k : Kind} → get_or t 0 0 ≡ letter_p → k ≡ capped_kind (behind problem_word problem_kind (take (length t - 1) (drop 1 t)))
-      → k ≡ capped_kind (shape_of t)
-  shape_problem e h =
-      h ∙ ap (λ (u : List ℕ). capped_kind (behind problem_word problem_kind u)) (part_to_end t 1)
-      ∙ sym (ap capped_kind (shape_by false true _ (ne_eqb (get_or t 0 0) letter_c (λ q. omega arith)) (eq-eqb (get_or t 0 0) letter_p e) refl))
-
-  pub shape_edge : {k : Kind} → get_or t 0 0 ≡ letter_e → k ≡ capped_kind (behind edge_word edge_kind (take (length t - 1) (drop 1 t)))
-      → k ≡ capped_kind (shape_of t)
-  shape_edge e h =
-      h ∙ ap (λ (u : List ℕ). capped_kind (behind edge_word edge_kind u)) (part_to_end t 1)
-      ∙ sym (ap capped_kind (shape_by false false true (ne_eqb (get_or t 0 0) letter_c (λ q. omega arith)) (ne_eqb (get_or t 0 0) letter_p (λ q. omega arith))
-      (eq-eqb (get_or t 0 0) letter_e e)))
-
-  pub shape_other : (get_or t 0 0 ≡ letter_c → ⊥) → (get_or t 0 0 ≡ letter_p → ⊥) → (get_or t 0 0 ≡ letter_e → ⊥) → other ≡ capped_kind (shape_of t)
-  shape_other f g h =
-      sym (ap capped_kind (shape_by false false false (ne_eqb (get_or t 0 0) letter_c f) (ne_eqb (get_or t 0 0) letter_p g) (ne_eqb (get_or t 0 0) letter_e h)))
+  pub behind_told : {k : Kind} {u : List ℕ} → pointwise eqb (take (length p) t) p ≡ true → u ≡ drop (length p) t
+      → k ≡ capped_kind (f u) → k ≡ capped_kind (behind p f t)
+  behind_told e g h = h ∙ ap (λ (u : List ℕ). capped_kind (f u)) g ∙ sym (ap capped_kind (behind_by true (sym (starts-pointwise p t) ∙ e)))
 
 pub shape_empty : (t : List ℕ) → length t ≡ 0 → other ≡ capped_kind (shape_of t)
 unfolding shape_of
 shape_empty [] e = refl
 shape_empty (b ∷ t) e = absurd (omega arith)
 
+module _ {t u : List ℕ} {b : ℕ} (q : t ≡ b ∷ u) where
+  -- the line by its first byte
+  shape_by : (c p e : Bool) → eqb b letter_c ≡ c → eqb b letter_p ≡ p → eqb b letter_e ≡ e
+      → shape_of t ≡ cond c comment (cond p (behind problem_word problem_kind u) (cond e (behind edge_word edge_kind u) other))
+  unfolding shape_of
+  shape_by c p e h i j =
+      ap shape_of q
+      ∙ ap (λ (z : Bool). cond z comment (cond (eqb b letter_p) (behind problem_word problem_kind u)
+      (cond (eqb b letter_e) (behind edge_word edge_kind u) other))) h
+      ∙ ap₂ (λ (z w : Bool). cond c comment (cond z (behind problem_word problem_kind u) (cond w (behind edge_word edge_kind u) other))) i j
+
+  pub shape_comment : b ≡ letter_c → comment ≡ capped_kind (shape_of t)
+  shape_comment e = sym (ap capped_kind (shape_by true _ _ (eq-eqb b letter_c e) refl refl))
+
+  pub shape_problem : {k : Kind} → b ≡ letter_p → k ≡ capped_kind (behind problem_word problem_kind u) → k ≡ capped_kind (shape_of t)
+  shape_problem e h = h ∙ sym (ap capped_kind (shape_by false true _ (ne_eqb b letter_c (λ q. omega arith)) (eq-eqb b letter_p e) refl))
+
+  pub shape_edge : {k : Kind} → b ≡ letter_e → k ≡ capped_kind (behind edge_word edge_kind u) → k ≡ capped_kind (shape_of t)
+  shape_edge e h =
+      h ∙ sym (ap capped_kind (shape_by false false true (ne_eqb b letter_c (λ q. omega arith)) (ne_eqb b letter_p (λ q. omega arith)) (eq-eqb b letter_e e)))
+
+  pub shape_other : (b ≡ letter_c → ⊥) → (b ≡ letter_p → ⊥) → (b ≡ letter_e → ⊥) → other ≡ capped_kind (shape_of t)
+  shape_other f g h = sym (ap capped_kind (shape_by false false false (ne_eqb b letter_c f) (ne_eqb b letter_p g) (ne_eqb b letter_e h)))
+
 -- ---- as the code cuts the text: the fields at the first blank, and a line at its byte 10
 
-module _ (t : List ℕ) {i x : ℕ} (e : i ≡ before blank t) (f : x ≡ figure_value (take i t)) where
-  first_field_lem : x ≡ figure_value (first_field t)
-  first_field_lem = f ∙ ap (λ (j : ℕ). figure_value (take j t)) e
+pub one_field : (t : List ℕ) → None ≡ position (λ x. eqb x blank) t → None ≡ fields_value t
+one_field t e =
+    second_none t (figure_empty (second_field t) (omega (arith, position_none blank t e, length-drop (suc (before blank t)) t)))
 
-  pub one_field : length t ≤ i → (x ≡ figure_value (first_field t)) × (no_figure ≡ figure_value (second_field t))
-  one_field l = (first_field_lem, figure_empty (second_field t) (omega (arith, length-drop (suc (before blank t)) t)))
+module _ (t : List ℕ) {i : ℕ} (e : Some i ≡ position (λ x. eqb x blank) t) where
+  pub first_cut : figure_value (take i t) ≡ figure_value (first_field t)
+  first_cut = ap (λ (j : ℕ). figure_value (take j t)) (position_some blank t e).0
 
-  pub two_fields : {y : ℕ} → y ≡ figure_value (take (length t - (i + 1)) (drop (i + 1) t))
-      → (x ≡ figure_value (first_field t)) × (y ≡ figure_value (second_field t))
-  two_fields g =
-      let past : i + 1 ≡ suc (before blank t) = omega arith in
-      (first_field_lem, g ∙ ap figure_value (part_to_end t (i + 1)) ∙ ap (λ (j : ℕ). figure_value (drop j t)) past)
+  pub second_cut : figure_value (take (length t - (i + 1)) (drop (i + 1) t)) ≡ figure_value (second_field t)
+  second_cut =
+      let past : i + 1 ≡ suc (before blank t) = omega (arith, position_some blank t e) in
+      ap figure_value (part_to_end t (i + 1)) ∙ ap (λ (j : ℕ). figure_value (drop j t)) past
 
-module _ (t : List ℕ) (at : ℕ) {i : ℕ} (e : i ≡ before newline (take (length t - at) (drop at t))) where
+module _ (t : List ℕ) (at : ℕ) where
   abbrev rest : List ℕ
   rest = drop at t
 
-  line_length_lem : i ≡ line_length rest
-  line_length_lem = e ∙ ap (before newline) (part_to_end t at)
+  abbrev cut : List ℕ
+  cut = take (length t - at) (drop at t)
 
-  kind_by : (b : Bool) → ltb i (length rest) ≡ b → kind_of (first_line rest) ≡ cond b (shape_of (take i rest)) other
+  kind_by : {i : ℕ} (b : Bool) → i ≡ line_length rest → ltb i (length rest) ≡ b → kind_of (first_line rest) ≡ cond b (shape_of (take i rest)) other
   unfolding kind_of
-  kind_by b h =
-      ap (λ (n : ℕ). kind_of (line (take n rest) (ltb n (length rest)))) (sym line_length_lem)
+  kind_by {i} b e h =
+      ap (λ (n : ℕ). kind_of (line (take n rest) (ltb n (length rest)))) (sym e)
       ∙ ap (λ (x : Bool). cond x (shape_of (take i rest)) other) h
 
-  part_long : length (take (length t - at) (drop at t)) ≡ length rest
-  part_long = ap length (part_to_end t at)
-
-  pub line_unended : at < length t → length (take (length t - at) (drop at t)) ≤ i → FirstLine t at (record { kind = Other; next = length t })
-  line_unended l h =
-      let all : length rest ≤ suc (line_length rest) = omega (arith, part_long, line_length_lem) in
+  pub line_unended : at < length t → None ≡ position (λ x. eqb x newline) cut → FirstLine t at (record { kind = None; next = length t })
+  line_unended l e =
+      let none : length rest ≤ line_length rest = position_none newline rest (e ∙ ap (position (λ x. eqb x newline)) (part_to_end t at)) in
+      let all : length rest ≤ suc (line_length rest) = omega (arith, none) in
       record {
-        told = sym (ap capped_kind (kind_by false (le-ltb i (length rest) (omega (arith, part_long)))));
+        told = sym (ap capped_kind (kind_by false refl (le-ltb (line_length rest) (length rest) none)));
         more = l;
         upto = omega arith;
         rest = drop_of_length-le t (le_refl (length t)) ∙ sym (drop_of_length-le rest all);
       }
 
-  pub line_ended : {k : ToldKind} → i < length (take (length t - at) (drop at t))
-      → kind_told k ≡ capped_kind (shape_of (take i (take (length t - at) (drop at t)))) → FirstLine t at (record { kind = k; next = at + i + 1 })
-  line_ended h f =
-      let past : at + i + 1 ≡ at + suc (line_length rest) = omega (arith, line_length_lem) in
+  pub line_ended : {i : ℕ} {k : Option ToldKind} → Some i ≡ position (λ x. eqb x newline) cut → kind_told k ≡ capped_kind (shape_of (take i cut))
+      → FirstLine t at (record { kind = k; next = at + i + 1 })
+  line_ended {i} e f =
+      let found = position_some newline rest (e ∙ ap (position (λ x. eqb x newline)) (part_to_end t at)) in
+      let past : at + i + 1 ≡ at + suc (line_length rest) = omega (arith, found.0) in
       record {
         told =
             f ∙ ap (λ (u : List ℕ). capped_kind (shape_of (take i u))) (part_to_end t at)
-            ∙ sym (ap capped_kind (kind_by true (lt-ltb i (length rest) (omega (arith, part_long)))));
+            ∙ sym (ap capped_kind (kind_by true found.0 (lt-ltb i (length rest) found.1)));
         more = omega arith;
-        upto = omega (arith, part_long, length-drop at t);
+        upto = omega (arith, found.1, length-drop at t);
         rest = ap (λ (m : ℕ). drop m t) past ∙ sym (drop-drop (suc (line_length rest)) at t);
       }

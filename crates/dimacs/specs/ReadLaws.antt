@@ -1,5 +1,6 @@
 -- Laws of the reading as a whole: the loop over lines, the end, and what the call then leaves in the rows.
-use Rattle.std.specs.Prelude.{ℕ, ◌+◌, ◌^◌, ◌≤◌, ◌<◌, ◌≡◌}
+use Rattle.std.specs.Prelude.{ℕ, ◌+◌, ◌^◌, ◌≤◌, ◌<◌, ◌≡◌, Option, None, Some, Result, Ok, Err}
+use Rattle.std.specs.Option.{ForSome}
 use native.Mathlib.Omega.{arith}
 use Rattle.std.proofs.Math.Path.{refl, sym, ap, ap₂, subst}
 use Rattle.std.proofs.Common.{◌∙◌}
@@ -23,16 +24,11 @@ use Rattle.dimacs.specs.RowLaws.{rows_length, rows_front}
 use Rattle.dimacs.specs.StateLaws.{next_capped, next_after, edge_more}
 use Rattle.dimacs.specs.declared.lines.Line.{Line as ToldLine}
 use Rattle.dimacs.specs.declared.state.Progress.{Progress}
-use Rattle.dimacs.specs.declared.state.Step.{Step}
-use Rattle.dimacs.specs.declared.state.Step.TheVariants as steps
-use Rattle.dimacs.specs.declared.Scan.{Scan}
-use Rattle.dimacs.specs.declared.Scan.TheVariants as scans
-use Rattle.dimacs.specs.declared.DimacsRead.{DimacsRead}
-use Rattle.dimacs.specs.declared.DimacsRead.TheVariants as reads
+use Rattle.dimacs.specs.declared.state.Scan.{Scan}
 
 -- ---- lines read one after the other: those before the position at gave the state that p and ms hold, and line l is next
 
-pub record Reads (t : List ℕ) (at l : ℕ) (p : Progress) (ms : List ℕ) : Type 0 where
+pub record Reads (t : List ℕ) (at l : ℕ) (p : Option Progress) (ms : List ℕ) : Type 0 where
   pub state : State
   pub upto : at ≤ length t
   pub left : read_lines 1 start (lines t) ≡ read_lines l state (lines (drop at t))
@@ -40,37 +36,25 @@ pub record Reads (t : List ℕ) (at l : ℕ) (p : Progress) (ms : List ℕ) : Ty
   pub counted : l ≤ at + 1
   pub few : length (edges_in state) < l
 
-pub reads_none : {t ms : List ℕ} → ms ≡ rows_of width [] → Reads t 0 1 (record { vertices = 0; edges = 0; read = 0 }) ms
-reads_none e =
-    record {
-      state = start;
-      upto = omega arith;
-      left = refl;
-      stands = record { sound = tt; said = (refl, refl); rows = e };
-      counted = omega arith;
-      few = omega arith;
-    }
-
-module _ {t : List ℕ} {at l : ℕ} {p : Progress} {ms : List ℕ} (h : Reads t at l p ms) where
+module _ {t : List ℕ} {at l : ℕ} {p : Option Progress} {ms : List ℕ} (h : Reads t at l p ms) where
   -- there is room for the next line, since a text has fewer than 2 ^ 63 bytes
-  pub reads_takes : at < length t → length t < 2 ^ 63 → Takes p ms
-  reads_takes k b = go h.state h.stands h.few
+  pub reads_takes : at < length t → length t < 2 ^ 63 → ForSome p (λ q. Takes q ms)
+  reads_takes k b q e = go h.state (subst (λ (p : Option Progress). Stands h.state p ms) e h.stands) h.few
     where
-      go : (s : State) → Stands s p ms → length (edges_in s) < l → Takes p ms
-      go start i q =
-          record { most = omega (arith, i.said.0); fits = omega (arith, i.said.1); wide = ap length i.rows ∙ rows_length width [] }
-      go (graph n m es) i q =
+      go : (s : State) → Stands s (Some q) ms → length (edges_in s) < l → Takes q ms
+      go start i f = absurd i.said
+      go (graph n m es) i f =
           record {
             most = omega (arith, i.said.vertices, i.sound.most);
             fits = omega (arith, i.said.read, h.counted);
             wide = ap length i.rows ∙ rows_length width es;
           }
 
-  pub reads_all : length t ≤ at → Scanned (read_lines 1 start (lines t)) (scans.Ended l p) ms
+  pub reads_all : length t ≤ at → Scanned (read_lines 1 start (lines t)) (Ok (record { number = l; progress = p })) ms
   unfolding read_lines lines
   reads_all k =
       let none = drop_of_length-le t k in
-      subst (λ (x : Reply State). Scanned x (scans.Ended l p) ms)
+      subst (λ (x : Reply State). Scanned x (Ok (record { number = l; progress = p })) ms)
       (sym (h.left ∙ ap (λ (u : List ℕ). read_lines l h.state (lines u)) none)) (refl, h.stands)
 
   module _ (k : at < length t) {r : ToldLine} (f : FirstLine t at r) where
@@ -84,25 +68,22 @@ module _ {t : List ℕ} {at l : ℕ} {p : Progress} {ms : List ℕ} (h : Reads t
         h.left ∙ ap (read_lines l h.state) (lines_first u some)
         ∙ ap₂ (λ (x : Reply State) (v : List ℕ). and_then x (λ s. read_lines (l + 1) s (lines v))) (sym kind) (sym f.rest)
 
-    pub reads_stop : (d : Refusal) (after : List ℕ) {x : Step} → x ≡ steps.Refused d → Comes (next l h.state (kind_told r.kind)) x after
-        → Scanned (read_lines 1 start (lines t)) (scans.Refused d) after
+    pub reads_stop : (d : Refusal) (after : List ℕ) → Comes (next l h.state (kind_told r.kind)) (Err d) after
+        → Scanned (read_lines 1 start (lines t)) (Err d) after
     unfolding and_then
-    reads_stop d after q c =
-        subst (λ (x : Reply State). Scanned x (scans.Refused d) after) (sym one_more)
-        (go (next l h.state (kind_told r.kind)) (subst (λ (x : Step). Comes (next l h.state (kind_told r.kind)) x after) q c))
+    reads_stop d after c =
+        subst (λ (x : Reply State). Scanned x (Err d) after) (sym one_more) (go (next l h.state (kind_told r.kind)) c)
       where
-        go : (x : Reply State) → Comes x (steps.Refused d) after
-            → Scanned (and_then x (λ s. read_lines (l + 1) s (lines (drop r.next t)))) (scans.Refused d) after
+        go : (x : Reply State) → Comes x (Err d) after → Scanned (and_then x (λ s. read_lines (l + 1) s (lines (drop r.next t)))) (Err d) after
         go (refused n v) e = e
         go (answered v s) e = absurd e
 
-    pub reads_more : (p' : Progress) (after : List ℕ) {x : Step} → x ≡ steps.Next p' → Comes (next l h.state (kind_told r.kind)) x after
+    pub reads_more : (p' : Option Progress) (after : List ℕ) → Comes (next l h.state (kind_told r.kind)) (Ok p') after
         → Reads t r.next (l + 1) p' after
     unfolding and_then
-    reads_more p' after q c =
-        go (next l h.state (kind_told r.kind)) refl (subst (λ (x : Step). Comes (next l h.state (kind_told r.kind)) x after) q c)
+    reads_more p' after c = go (next l h.state (kind_told r.kind)) refl c
       where
-        go : (x : Reply State) → next l h.state (kind_told r.kind) ≡ x → Comes x (steps.Next p') after → Reads t r.next (l + 1) p' after
+        go : (x : Reply State) → next l h.state (kind_told r.kind) ≡ x → Comes x (Ok p') after → Reads t r.next (l + 1) p' after
         go (refused n v) e c = absurd c
         go (answered v s) e c =
             record {
@@ -122,104 +103,119 @@ module _ {t : List ℕ} {at l : ℕ} {p : Progress} {ms : List ℕ} (h : Reads t
 
 -- ---- the end
 
-module _ (room l : ℕ) (p : Progress) (ms : List ℕ) where
-  pub end_unsaid : (s : State) → Stands s p ms → p.vertices ≡ 0 → Ends room (finish room (answered l s)) (reads.Refused (DimacsLine l)) ms
-  unfolding finish
-  end_unsaid start h e = refl
-  end_unsaid (graph n m es) h e = absurd (omega (arith, h.sound.some, h.said.vertices))
+pub end_unsaid : {q : Option Progress} → q ≡ None → (room l : ℕ) (ms : List ℕ) (s : State) → Stands s q ms
+    → Ends room (finish room (answered l s)) (Err (DimacsLine l)) ms
+unfolding finish
+end_unsaid {q} e room l ms s h = go s (subst (λ (q : Option Progress). Stands s q ms) e h)
+  where
+    go : (s : State) → Stands s None ms → Ends room (finish room (answered l s)) (Err (DimacsLine l)) ms
+    go start h = refl
+    go (graph n m es) h = absurd h.said
 
-  -- the p line was there: what decides is the number of e lines, and then the room
-  pub end_counted : (s : State) → Stands s p ms → (p.vertices ≡ 0 → ⊥) → (p.read ≡ p.edges → ⊥)
-      → Ends room (finish room (answered l s)) (reads.Refused EdgeCount) ms
-  unfolding finish
-  end_counted start h e f = absurd (e h.said.0)
-  end_counted (graph n m es) h e f =
-      let o = h.said in
-      let other = ne_eqb (length es) m (λ q. f (omega (arith, o.read, o.edges))) in
-      subst (λ (x : Reply (List ℕ)). Ends room x (reads.Refused EdgeCount) ms) (sym (first_holds (count_cause es m) _ _ (ap not other))) refl
+-- the p line was there: what decides is the number of e lines, and then the room
+module _ {q : Option Progress} {p : Progress} (kept : q ≡ Some p) (room l : ℕ) (ms : List ℕ) where
+  -- n, m and the edges
+  in_graph : (r : Result ℕ Refusal) (s : State) → Stands s q ms
+      → ((n m : ℕ) (es : List Edge) → Stands (graph n m es) (Some p) ms → Ends room (finish room (answered l (graph n m es))) r ms)
+      → Ends room (finish room (answered l s)) r ms
+  in_graph r s h f = go s (subst (λ (q : Option Progress). Stands s q ms) kept h)
+    where
+      go : (s : State) → Stands s (Some p) ms → Ends room (finish room (answered l s)) r ms
+      go start h = absurd h.said
+      go (graph n m es) h = f n m es h
 
   counted : {n m : ℕ} (es : List Edge) → Holds n m es p → p.read ≡ p.edges
       → finish room (answered l (graph n m es)) ≡ first_cause (room_cause room n ∷ []) (answered n (rows_of n es))
   unfolding finish
   counted {n} {m} es o f = first_skips (count_cause es m) _ _ (ap not (eq-eqb (length es) m (omega (arith, o.read, o.edges))))
 
-  pub end_short : (s : State) → Stands s p ms → (p.vertices ≡ 0 → ⊥) → p.read ≡ p.edges → room < p.vertices
-      → Ends room (finish room (answered l s)) (reads.Refused (Room p.vertices)) ms
-  unfolding room_cause
-  end_short start h e f k = absurd (e h.said.0)
-  end_short (graph n m es) h e f k =
-      let same = h.said.vertices in
-      subst (λ (x : Reply (List ℕ)). Ends room x (reads.Refused (Room p.vertices)) ms)
-      (sym (counted es h.said f ∙ first_holds (room_cause room n) [] _ (lt-ltb room n (omega (arith, same))))) (ap (refused 9) same)
+  pub end_counted : (s : State) → Stands s q ms → (p.read ≡ p.edges → ⊥) → Ends room (finish room (answered l s)) (Err EdgeCount) ms
+  unfolding finish
+  end_counted s h f =
+      in_graph (Err EdgeCount) s h (λ n m es h.
+      let o = h.said in
+      let other = ne_eqb (length es) m (λ q. f (omega (arith, o.read, o.edges))) in
+      subst (λ (x : Reply (List ℕ)). Ends room x (Err EdgeCount) ms) (sym (first_holds (count_cause es m) _ _ (ap not other))) refl)
 
-  pub end_read : (s : State) → Stands s p ms → (p.vertices ≡ 0 → ⊥) → p.read ≡ p.edges → p.vertices ≤ room
-      → Ends room (finish room (answered l s)) (reads.Read p.vertices) ms
+  pub end_short : (s : State) → Stands s q ms → p.read ≡ p.edges → room < p.vertices
+      → Ends room (finish room (answered l s)) (Err (Room p.vertices)) ms
+  unfolding room_cause
+  end_short s h f k =
+      in_graph (Err (Room p.vertices)) s h (λ n m es h.
+      let same = h.said.vertices in
+      subst (λ (x : Reply (List ℕ)). Ends room x (Err (Room p.vertices)) ms)
+      (sym (counted es h.said f ∙ first_holds (room_cause room n) [] _ (lt-ltb room n (omega (arith, same))))) (ap (refused 9) same))
+
+  pub end_read : (s : State) → Stands s q ms → p.read ≡ p.edges → p.vertices ≤ room
+      → Ends room (finish room (answered l s)) (Ok p.vertices) ms
   unfolding room_cause first_cause
-  end_read start h e f k = absurd (e h.said.0)
-  end_read (graph n m es) h e f k =
+  end_read s h f k =
+      in_graph (Ok p.vertices) s h (λ n m es h.
       let same = h.said.vertices in
       let most = h.sound.most in
-      subst (λ (x : Reply (List ℕ)). Ends room x (reads.Read p.vertices) ms)
+      subst (λ (x : Reply (List ℕ)). Ends room x (Ok p.vertices) ms)
       (sym (counted es h.said f ∙ first_skips (room_cause room n) [] _ (le-ltb room n (omega (arith, same))))) (
         same,
         k,
         omega (arith, ap length h.rows, rows_length width es),
         ap₂ take same h.rows ∙ rows_front n width es h.sound.proper most,
-      )
+      ))
 
 -- ---- the whole call
 
-pub scan_refused : (room : ℕ) (d : Refusal) (ms : List ℕ) (x : Reply State) {r : Scan} → r ≡ scans.Refused d → Scanned x r ms
-    → Ends room (finish room x) (reads.Refused d) ms
-unfolding finish
-scan_refused room d ms (refused c v) e h = subst (λ (r : Scan). Scanned (refused c v) r ms) e h
-scan_refused room d ms (answered v s) e h = absurd (subst (λ (r : Scan). Scanned (answered v s) r ms) e h)
-
-pub scan_ended : (room l : ℕ) (p : Progress) (a : DimacsRead) (ms : List ℕ) (x : Reply State) {r : Scan} → r ≡ scans.Ended l p → Scanned x r ms
-    → ((s : State) → Stands s p ms → Ends room (finish room (answered l s)) a ms) → Ends room (finish room x) a ms
-scan_ended room l p a ms (refused c v) e h f = absurd (subst (λ (r : Scan). Scanned (refused c v) r ms) e h)
-scan_ended room l p a ms (answered v s) e h f =
-    let told = subst (λ (r : Scan). Scanned (answered v s) r ms) e h in
-    subst (λ (k : ℕ). Ends room (finish room (answered k s)) a ms) told.0 (f s told.1)
-
 module _ (t old : List ℕ) where
-  pub all_read : {room : ℕ} (scan : Scan) (r : DimacsRead) (ms : List ℕ) → room ≡ length old
-      → ((x : Reply State) (us : List ℕ) → Scanned x scan us → Ends room (finish room x) r us) → Scanned (read_lines 1 start (lines t)) scan ms
-      → Ends (length old) (reading t (length old)) r ms
-  unfolding reading
-  all_read scan r ms e f h =
-      subst (λ (k : ℕ). Ends k (finish k (read_lines 1 start (lines t))) r ms) e (f (read_lines 1 start (lines t)) ms h)
-
   -- a refusal leaves the rows
-  pub read_refused : (d : Refusal) (ms : List ℕ) {r : DimacsRead} → r ≡ reads.Refused d → Ends (length old) (reading t (length old)) r ms
-      → ReadDimacs t old old (reads.Refused d)
-  read_refused d ms q h = go (reading t (length old)) refl (subst (λ (r : DimacsRead). Ends (length old) (reading t (length old)) r ms) q h)
+  refused_end : (d : Refusal) (ms : List ℕ) → Ends (length old) (reading t (length old)) (Err d) ms → ReadDimacs t old old (Err d)
+  refused_end d ms h = go (reading t (length old)) refl h
     where
-      go : (x : Reply (List ℕ)) → reading t (length old) ≡ x → Ends (length old) x (reads.Refused d) ms → ReadDimacs t old old (reads.Refused d)
+      go : (x : Reply (List ℕ)) → reading t (length old) ≡ x → Ends (length old) x (Err d) ms → ReadDimacs t old old (Err d)
       go (refused c v) e k = record { reply = k ∙ ap count_of (sym e); rows = ap (λ (x : Reply (List ℕ)). rows_after x old) (sym e) }
       go (answered v g) e k = absurd k
 
-  -- what is read has room, in the table as in the rows
-  pub read_room : (n : ℕ) (ms : List ℕ) {r : DimacsRead} → r ≡ reads.Read n → Ends (length old) (reading t (length old)) r ms
-      → (n ≤ length ms) × (n ≤ length old)
-  read_room n ms q h = go (reading t (length old)) (subst (λ (r : DimacsRead). Ends (length old) (reading t (length old)) r ms) q h)
+  -- at a line
+  pub lines_refused : (d : Refusal) (ms : List ℕ) → Scanned (read_lines 1 start (lines t)) (Err d) ms → ReadDimacs t old old (Err d)
+  unfolding reading finish
+  lines_refused d ms h = refused_end d ms (go (read_lines 1 start (lines t)) h)
     where
-      go : (x : Reply (List ℕ)) → Ends (length old) x (reads.Read n) ms → (n ≤ length ms) × (n ≤ length old)
-      go (refused c v) k = absurd k
-      go (answered v g) k = (k.2, k.1)
+      go : (x : Reply State) → Scanned x (Err d) ms → Ends (length old) (finish (length old) x) (Err d) ms
+      go (refused c v) h = h
+      go (answered v s) h = absurd h
 
-  pub read_stored : (n : ℕ) (ms new : List ℕ) {r : DimacsRead} → r ≡ reads.Read n → Ends (length old) (reading t (length old)) r ms
-      → new ≡ take n ms ++ drop n old
-      → ReadDimacs t old new (reads.Read n)
-  unfolding over
-  read_stored n ms new q h f =
-      go (reading t (length old)) refl (subst (λ (r : DimacsRead). Ends (length old) (reading t (length old)) r ms) q h)
-    where
-      go : (x : Reply (List ℕ)) → reading t (length old) ≡ x → Ends (length old) x (reads.Read n) ms → ReadDimacs t old new (reads.Read n)
-      go (refused c v) e k = absurd k
-      go (answered v g) e k =
-          let long : n ≡ length g = sym (ap length (sym k.3) ∙ length-take-le n ms k.2) in
-          record {
-            reply = ap (λ (m : ℕ). answered m tt) k.0 ∙ ap count_of (sym e);
-            rows = f ∙ ap₂ (λ (u : List ℕ) (m : ℕ). u ++ drop m old) k.3 long ∙ ap (λ (x : Reply (List ℕ)). rows_after x old) (sym e);
-          }
+  -- all lines passed, and the end is judged
+  module _ {room : ℕ} (e : Scan) (ms : List ℕ) (h : Scanned (read_lines 1 start (lines t)) (Ok e) ms) (fits : room ≡ length old) where
+    judged : (r : Result ℕ Refusal)
+        → ((s : State) (us : List ℕ) → Stands s e.progress us → Ends room (finish room (answered e.number s)) r us)
+        → Ends (length old) (reading t (length old)) r ms
+    unfolding reading
+    judged r f = subst (λ (k : ℕ). Ends k (finish k (read_lines 1 start (lines t))) r ms) fits (go (read_lines 1 start (lines t)) h)
+      where
+        go : (x : Reply State) → Scanned x (Ok e) ms → Ends room (finish room x) r ms
+        go (refused c v) k = absurd k
+        go (answered v s) k = subst (λ (l : ℕ). Ends room (finish room (answered l s)) r ms) k.0 (f s ms k.1)
+
+    pub end_refused : (d : Refusal)
+        → ((s : State) (us : List ℕ) → Stands s e.progress us → Ends room (finish room (answered e.number s)) (Err d) us)
+        → ReadDimacs t old old (Err d)
+    end_refused d f = refused_end d ms (judged _ f)
+
+    module _ {n : ℕ} (f : (s : State) (us : List ℕ) → Stands s e.progress us → Ends room (finish room (answered e.number s)) (Ok n) us) where
+      -- what is read has room, in the table as in the rows
+      pub read_room : (n ≤ length ms) × (n ≤ length old)
+      read_room = go (reading t (length old)) (judged _ f)
+        where
+          go : (x : Reply (List ℕ)) → Ends (length old) x (Ok n) ms → (n ≤ length ms) × (n ≤ length old)
+          go (refused c v) k = absurd k
+          go (answered v g) k = (k.2, k.1)
+
+      pub read_stored : (new : List ℕ) → new ≡ take n ms ++ drop n old → ReadDimacs t old new (Ok n)
+      unfolding over
+      read_stored new q = go (reading t (length old)) refl (judged _ f)
+        where
+          go : (x : Reply (List ℕ)) → reading t (length old) ≡ x → Ends (length old) x (Ok n) ms → ReadDimacs t old new (Ok n)
+          go (refused c v) e k = absurd k
+          go (answered v g) e k =
+              let long : n ≡ length g = sym (ap length (sym k.3) ∙ length-take-le n ms k.2) in
+              record {
+                reply = ap (λ (m : ℕ). answered m tt) k.0 ∙ ap count_of (sym e);
+                rows = q ∙ ap₂ (λ (u : List ℕ) (m : ℕ). u ++ drop m old) k.3 long ∙ ap (λ (x : Reply (List ℕ)). rows_after x old) (sym e);
+              }

@@ -39,12 +39,14 @@ edge_cases e a b t = go (or_cases (eqb e.one a && eqb e.two b) (eqb e.one b && e
 pub edge_one : (e : Edge) (a b : ℕ) → e.one ≡ a → e.two ≡ b → T (is_edge e a b)
 unfolding is_edge
 edge_one e a b p q =
-    or_left (eqb e.one a && eqb e.two b) _ (both (eqb e.one a) (eqb e.two b) (true_holds (eqb e.one a) (eq-eqb e.one a p)) (true_holds (eqb e.two b) (eq-eqb e.two b q)))
+    or_left (eqb e.one a && eqb e.two b) _
+    (both (eqb e.one a) (eqb e.two b) (true_holds (eqb e.one a) (eq-eqb e.one a p)) (true_holds (eqb e.two b) (eq-eqb e.two b q)))
 
 edge_two : (e : Edge) (a b : ℕ) → e.one ≡ b → e.two ≡ a → T (is_edge e a b)
 unfolding is_edge
 edge_two e a b p q =
-    or_right (eqb e.one a && eqb e.two b) _ (both (eqb e.one b) (eqb e.two a) (true_holds (eqb e.one b) (eq-eqb e.one b p)) (true_holds (eqb e.two a) (eq-eqb e.two a q)))
+    or_right (eqb e.one a && eqb e.two b) _
+    (both (eqb e.one b) (eqb e.two a) (true_holds (eqb e.one b) (eq-eqb e.one b p)) (true_holds (eqb e.two a) (eq-eqb e.two a q)))
 
 edge_turned : (e : Edge) (a b : ℕ) → T (is_edge e a b) → T (is_edge e b a)
 edge_turned e a b t = go (edge_cases e a b t)

@@ -1,16 +1,19 @@
 -- What the functions below the entry point answer, and what they rely on.
 --
 --   capped x           the number x, or `above` for every number above most_edges
---   digits_value bs     the number that the bytes bs are in digits, capped;  figure_value bs, the same of a figure;  no_figure, where they are none
---   kind_told k         the kind that the code tells as k;  capped_kind k, the kind k as the code tells it
+--   digit_value b      the value of the byte b as a digit, where it is one;  digits_value bs, the number that the bytes bs are in digits, capped;
+--                      figure_value bs, the same of a figure;  fields_value bs, those of two figures parted by one blank
+--   kind_told k        the kind that the code tells as k;  capped_kind k, the kind k as the code tells it
 --   FirstLine t at r   r tells the first line of what stands in t from position at on
+--   GivesLine r l r'   the line reader r gives the line l, and is r' then
 --   linked g a b       the rows g with the edge of a and b
 --   Sound s            the state s is a graph as far as it goes: n is accepted, and its edges are proper
 --   Stands s p ms      the progress p and a table of the rows ms hold the state s
 --   Takes p ms         p and ms have room for one line more
---   Comes x r ms       the step r, which leaves the rows ms, is the reply x
+--   Comes x r ms       the result r of a line, which leaves the rows ms, is the reply x
 --   Scanned x r ms     the same of all lines;  Ends x r ms, of the whole reading
 use Rattle.std.specs.Prelude.{ℕ, suc, ◌+◌, ◌^◌, ◌≤◌, ◌<◌, min, ◌≡◌, cond, List, [], T, ltb, length, take, drop, set}
+use Rattle.std.specs.Prelude.{MatchOption, Option, None, Some, Result, Ok, Err}
 use Rattle.sets.specs.Ranges.{all}
 use Rattle.sets.specs.Words.{width}
 use Rattle.sets.specs.Set.{with}
@@ -18,44 +21,44 @@ use Rattle.sets.specs.Graph.{row}
 use Rattle.sheets.specs.Lines.{newline}
 use Rattle.judging.specs.Refusal.{Reply, refused, answered, most_vertices}
 use Rattle.judging.specs.Calls.{refusal}
-use Rattle.dimacs.specs.Figures.{is_decimal, number, is_figure}
-use Rattle.dimacs.specs.Lines.{before, Line, line, Kind, comment, problem, edge, other, most_edges, kind_of}
+use Rattle.judging.specs.declared.Refusal.{Refusal}
+use Rattle.dimacs.specs.Figures.{decimal_value, is_decimal, number, is_figure}
+use Rattle.dimacs.specs.Lines.{before, Line, line, Kind, comment, problem, edge, other, first_field, second_field, is_pair, most_edges, kind_of}
 use Rattle.dimacs.specs.Dimacs.{Edge, joins, rows_of, State, start, graph}
 use Rattle.dimacs.specs.declared.lines.Kind.{Kind as ToldKind}
 use Rattle.dimacs.specs.declared.lines.Kind.TheVariants as told
 use Rattle.dimacs.specs.declared.lines.Line.{Line as ToldLine}
+use Rattle.dimacs.specs.declared.reader.Reader.{Reader}
 use Rattle.dimacs.specs.declared.state.Progress.{Progress}
-use Rattle.dimacs.specs.declared.state.Step.{Step}
-use Rattle.dimacs.specs.declared.state.Step.TheVariants as steps
-use Rattle.dimacs.specs.declared.Scan.{Scan}
-use Rattle.dimacs.specs.declared.Scan.TheVariants as scans
-use Rattle.dimacs.specs.declared.DimacsRead.{DimacsRead}
-use Rattle.dimacs.specs.declared.DimacsRead.TheVariants as reads
+use Rattle.dimacs.specs.declared.state.Scan.{Scan}
 
 -- ---- figures
 
 abbrev pub above : ℕ
 above = most_edges + 1
 
-abbrev pub no_figure : ℕ
-no_figure = most_edges + 2
-
 abbrev pub capped : ℕ → ℕ
 capped x = min x above
 
-unfoldable pub digits_value : List ℕ → ℕ
-digits_value bs = cond (all is_decimal bs) (capped (number bs)) no_figure
+unfoldable pub digit_value : ℕ → Option ℕ
+digit_value b = cond (is_decimal b) (Some (decimal_value b)) None
 
-unfoldable pub figure_value : List ℕ → ℕ
-figure_value bs = cond (is_figure bs) (capped (number bs)) no_figure
+unfoldable pub digits_value : List ℕ → Option ℕ
+digits_value bs = cond (all is_decimal bs) (Some (capped (number bs))) None
+
+unfoldable pub figure_value : List ℕ → Option ℕ
+figure_value bs = cond (is_figure bs) (Some (capped (number bs))) None
+
+unfoldable pub fields_value : List ℕ → Option (ℕ × ℕ)
+fields_value bs = cond (is_pair bs) (Some (capped (number (first_field bs)), capped (number (second_field bs)))) None
 
 -- ---- lines
 
-abbrev pub kind_told : ToldKind → Kind
-kind_told told.Comment = comment
-kind_told (told.Problem n m) = problem n m
-kind_told (told.Edge u v) = edge u v
-kind_told told.Other = other
+abbrev pub kind_told : Option ToldKind → Kind
+kind_told None = other
+kind_told (Some told.Comment) = comment
+kind_told (Some (told.Problem n m)) = problem n m
+kind_told (Some (told.Edge u v)) = edge u v
 
 -- m is never above most_edges
 abbrev pub capped_kind : Kind → Kind
@@ -75,6 +78,12 @@ pub record FirstLine (t : List ℕ) (at : ℕ) (r : ToldLine) : Type 0 where
   pub more : at < r.next
   pub upto : r.next ≤ length t
   pub rest : drop r.next t ≡ drop (suc (line_length (drop at t))) (drop at t)
+
+-- the next line, where one is left
+pub record GivesLine (r : Reader) (l : Option ToldLine) (r' : Reader) : Type 0 where
+  pub text : r'.text.now ≡ r.text.now
+  pub line :
+      MatchOption l (length r.text.now ≤ r.at) (λ x. (r.at < length r.text.now) × FirstLine r.text.now r.at x × (r'.at ≡ x.next))
 
 -- ---- from line to line
 
@@ -109,11 +118,13 @@ pub record Holds (n m : ℕ) (es : List Edge) (p : Progress) : Type 0 where
   pub edges : p.edges ≡ m
   pub read : p.read ≡ length es
 
-abbrev pub Said : State → Progress → Type 0
-Said start p = (p.vertices ≡ 0) × (p.read ≡ 0)
-Said (graph n m es) p = Holds n m es p
+abbrev pub Said : State → Option Progress → Type 0
+Said start None = Unit {0}
+Said start (Some p) = ⊥
+Said (graph n m es) None = ⊥
+Said (graph n m es) (Some p) = Holds n m es p
 
-pub record Stands (s : State) (p : Progress) (ms : List ℕ) : Type 0 where
+pub record Stands (s : State) (p : Option Progress) (ms : List ℕ) : Type 0 where
   pub sound : Sound s
   pub said : Said s p
   pub rows : ms ≡ rows_of width (edges_in s)
@@ -123,22 +134,22 @@ pub record Takes (p : Progress) (ms : List ℕ) : Type 0 where
   pub fits : p.read + 1 < 2 ^ 64
   pub wide : length ms ≡ width
 
-abbrev pub Comes : Reply State → Step → List ℕ → Type 0
-Comes (refused c v) (steps.Refused f) ms = refusal {A = Unit {0}} f ≡ refused c v
-Comes (refused c v) (steps.Next p) ms = ⊥
-Comes (answered v s) (steps.Refused f) ms = ⊥
-Comes (answered v s) (steps.Next p) ms = Stands s p ms
+abbrev pub Comes : Reply State → Result (Option Progress) Refusal → List ℕ → Type 0
+Comes (refused c v) (Err f) ms = refusal {A = Unit {0}} f ≡ refused c v
+Comes (refused c v) (Ok p) ms = ⊥
+Comes (answered v s) (Err f) ms = ⊥
+Comes (answered v s) (Ok p) ms = Stands s p ms
 
 -- ---- all lines, and the end
 
-abbrev pub Scanned : Reply State → Scan → List ℕ → Type 0
-Scanned (refused c v) (scans.Refused f) ms = refusal {A = Unit {0}} f ≡ refused c v
-Scanned (refused c v) (scans.Ended l p) ms = ⊥
-Scanned (answered v s) (scans.Refused f) ms = ⊥
-Scanned (answered v s) (scans.Ended l p) ms = (l ≡ v) × Stands s p ms
+abbrev pub Scanned : Reply State → Result Scan Refusal → List ℕ → Type 0
+Scanned (refused c v) (Err f) ms = refusal {A = Unit {0}} f ≡ refused c v
+Scanned (refused c v) (Ok e) ms = ⊥
+Scanned (answered v s) (Err f) ms = ⊥
+Scanned (answered v s) (Ok e) ms = (e.number ≡ v) × Stands s e.progress ms
 
-abbrev pub Ends : ℕ → Reply (List ℕ) → DimacsRead → List ℕ → Type 0
-Ends room (refused c v) (reads.Refused f) ms = refusal {A = Unit {0}} f ≡ refused c v
-Ends room (refused c v) (reads.Read n) ms = ⊥
-Ends room (answered v g) (reads.Refused f) ms = ⊥
-Ends room (answered v g) (reads.Read n) ms = (n ≡ v) × (n ≤ room) × (n ≤ length ms) × (take n ms ≡ g)
+abbrev pub Ends : ℕ → Reply (List ℕ) → Result ℕ Refusal → List ℕ → Type 0
+Ends room (refused c v) (Err f) ms = refusal {A = Unit {0}} f ≡ refused c v
+Ends room (refused c v) (Ok n) ms = ⊥
+Ends room (answered v g) (Err f) ms = ⊥
+Ends room (answered v g) (Ok n) ms = (n ≡ v) × (n ≤ room) × (n ≤ length ms) × (take n ms ≡ g)

@@ -1,5 +1,5 @@
 -- Laws of the state from line to line: what the code makes of a line is what the definition makes of it, also where it is told a capped number.
-use Rattle.std.specs.Prelude.{ℕ, suc, ◌+◌, ◌-◌, ◌≤◌, ◌<◌, ◌≡◌, ◌≢◌, Bool, true, false, ◌||◌, ltb, length}
+use Rattle.std.specs.Prelude.{ℕ, suc, ◌+◌, ◌-◌, ◌≤◌, ◌<◌, ◌≡◌, ◌≢◌, Bool, true, false, ◌||◌, ltb, length, is_some, Option, None, Some, Result, Ok, Err}
 use Rattle.std.proofs.Common.{arith, sym, ◌∙◌, lt-ltb}
 use Rattle.std.proofs.Math.Decide.{dec_le}
 use Rattle.std.proofs.Math.Path.{refl, ap, ap₂, subst}
@@ -10,6 +10,7 @@ use Rattle.sets.specs.Words.{width}
 use Rattle.sets.specs.RangeLaws.{true_is_not_false}
 use Rattle.judging.specs.Refusal.{Reply, refused, answered, reply_number, first_cause, most_vertices, outside, vertex_cause}
 use Rattle.judging.specs.RefusalLaws.{first_holds, first_skips, answered_passed, answered_found, passed_head, within_range}
+use Rattle.judging.specs.declared.Refusal.{Refusal}
 use Rattle.judging.specs.declared.Refusal.TheVariants.{DimacsLine, Vertices}
 use Rattle.dimacs.specs.Lines.{Kind, comment, problem, edge, other}
 use Rattle.dimacs.specs.Dimacs.{Edge, edge_of, State, start, graph, line_cause, is_wrong, next}
@@ -17,8 +18,6 @@ use Rattle.dimacs.specs.Setting.{capped, kind_told, capped_kind, linked, Sound, 
 use Rattle.dimacs.specs.RowLaws.{proper_none, proper_more, rows_linked}
 use Rattle.dimacs.specs.declared.lines.Kind.{Kind as ToldKind}
 use Rattle.dimacs.specs.declared.state.Progress.{Progress}
-use Rattle.dimacs.specs.declared.state.Step.{Step}
-use Rattle.dimacs.specs.declared.state.Step.TheVariants as steps
 
 or_true : (b : Bool) → (b || true) ≡ true
 or_true true = refl
@@ -68,7 +67,8 @@ next_problem : (l n m : ℕ) → next l start (problem (capped n) m) ≡ next l 
 unfolding next
 next_problem l n m = go (dec_le n most_vertices)
   where
-    go : Dec (n ≤ most_vertices) → first_cause (vertex_cause (capped n) ∷ []) (answered 0 (graph (capped n) m [])) ≡ first_cause (vertex_cause n ∷ []) (answered 0 (graph n m []))
+    go : Dec (n ≤ most_vertices)
+        → first_cause (vertex_cause (capped n) ∷ []) (answered 0 (graph (capped n) m [])) ≡ first_cause (vertex_cause n ∷ []) (answered 0 (graph n m []))
     go (yes k) =
         let same : capped n ≡ n = omega arith in
         ap (λ (x : ℕ). first_cause (vertex_cause x ∷ []) (answered 0 (graph x m []))) same
@@ -175,76 +175,94 @@ edge_more other es = omega arith
 
 -- ---- a line of another shape, and a comment
 
-pub told_as : (l : ℕ) (s : State) (r : Step) (ms : List ℕ) {k k' : ToldKind} → k ≡ k' → Comes (next l s (kind_told k')) r ms
-    → Comes (next l s (kind_told k)) r ms
-told_as l s r ms e h = subst (λ (x : ToldKind). Comes (next l s (kind_told x)) r ms) (sym e) h
-
-pub other_comes : (l : ℕ) (s : State) (ms : List ℕ) → Comes (next l s other) (steps.Refused (DimacsLine l)) ms
+pub other_comes : {k : Option ToldKind} → k ≡ None → (l : ℕ) (ms : List ℕ) (s : State) → Comes (next l s (kind_told k)) (Err (DimacsLine l)) ms
 unfolding next
-other_comes l start ms = refl
-other_comes l (graph n m es) ms = refl
+other_comes e l ms s = subst (λ (k : Option ToldKind). Comes (next l s (kind_told k)) (Err (DimacsLine l)) ms) (sym e) (go s)
+  where
+    go : (s : State) → Comes (next l s other) (Err (DimacsLine l)) ms
+    go start = refl
+    go (graph n m es) = refl
 
-pub comment_comes : (l : ℕ) (s : State) (p : Progress) (ms : List ℕ) → Stands s p ms → Comes (next l s comment) (steps.Next p) ms
+pub comment_comes : (k : Option ToldKind) → kind_told k ≡ comment → (l : ℕ) (p : Option Progress) (ms : List ℕ) (s : State) → Stands s p ms
+    → Comes (next l s (kind_told k)) (Ok p) ms
 unfolding next
-comment_comes l start p ms h = h
-comment_comes l (graph n m es) p ms h = h
+comment_comes k e l p ms s h = subst (λ (k : Kind). Comes (next l s k) (Ok p) ms) (sym e) (go s h)
+  where
+    go : (s : State) → Stands s p ms → Comes (next l s comment) (Ok p) ms
+    go start h = h
+    go (graph n m es) h = h
 
 -- ---- a p line
 
-module _ (l n m : ℕ) (p : Progress) (ms : List ℕ) where
-  pub problem_again : (s : State) → Stands s p ms → 0 < p.vertices → Comes (next l s (problem n m)) (steps.Refused (DimacsLine l)) ms
+module _ (l n m : ℕ) (ms : List ℕ) where
+  pub problem_again : (p : Option Progress) → true ≡ is_some p → (s : State) → Stands s p ms → Comes (next l s (problem n m)) (Err (DimacsLine l)) ms
   unfolding next
-  problem_again start h k = absurd (omega (arith, h.said.0))
-  problem_again (graph n' m' es) h k = refl
+  problem_again None e s h = absurd (true_is_not_false e)
+  problem_again (Some p) e start h = absurd h.said
+  problem_again (Some p) e (graph n' m' es) h = refl
 
-  pub problem_outside : (s : State) → Stands s p ms → p.vertices ≤ 0 → outside 1 most_vertices n ≡ true
-      → Comes (next l s (problem n m)) (steps.Refused Vertices) ms
+  pub problem_outside : (p : Option Progress) → false ≡ is_some p → outside 1 most_vertices n ≡ true → (s : State) → Stands s p ms
+      → Comes (next l s (problem n m)) (Err Vertices) ms
   unfolding next vertex_cause
-  problem_outside start h k e =
-      subst (λ (x : Reply State). Comes x (steps.Refused Vertices) ms) (sym (first_holds (vertex_cause n) [] (answered 0 (graph n m [])) e)) refl
-  problem_outside (graph n' m' es) h k e = absurd (omega (arith, h.sound.some, h.said.vertices))
+  problem_outside (Some p) e f s h = absurd (true_is_not_false (sym e))
+  problem_outside None e f (graph n' m' es) h = absurd h.said
+  problem_outside None e f start h =
+      subst (λ (x : Reply State). Comes x (Err Vertices) ms) (sym (first_holds (vertex_cause n) [] (answered 0 (graph n m [])) f)) refl
 
-  pub problem_comes : (s : State) → Stands s p ms → p.vertices ≤ 0 → outside 1 most_vertices n ≡ false
-      → Comes (next l s (problem n m)) (steps.Next (record { vertices = n; edges = m; read = 0 })) ms
+  pub problem_comes : (p : Option Progress) → false ≡ is_some p → outside 1 most_vertices n ≡ false → (s : State) → Stands s p ms
+      → Comes (next l s (problem n m)) (Ok (Some (record { vertices = n; edges = m; read = 0 }))) ms
   unfolding next vertex_cause first_cause
-  problem_comes start h k e =
-      let done = first_skips (vertex_cause n) [] (answered 0 (graph n m [])) e in
-      subst (λ (x : Reply State). Comes x (steps.Next (record { vertices = n; edges = m; read = 0 })) ms) (sym done)
+  problem_comes (Some p) e f s h = absurd (true_is_not_false (sym e))
+  problem_comes None e f (graph n' m' es) h = absurd h.said
+  problem_comes None e f start h =
+      let done = first_skips (vertex_cause n) [] (answered 0 (graph n m [])) f in
+      subst (λ (x : Reply State). Comes x (Ok (Some (record { vertices = n; edges = m; read = 0 }))) ms) (sym done)
       (record {
         sound = (after_problem n m done).sound tt;
         said = record { vertices = refl; edges = refl; read = refl };
         rows = h.rows;
       })
-  problem_comes (graph n' m' es) h k e = absurd (omega (arith, h.sound.some, h.said.vertices))
 
 -- ---- an e line
 
-module _ (l u v : ℕ) (p : Progress) (ms : List ℕ) where
-  -- what the definition asks of n is asked of the number kept
-  as_kept : {n m : ℕ} {es : List Edge} {b : Bool} → Stands (graph n m es) p ms → is_wrong p.vertices u v ≡ b → is_wrong n u v ≡ b
-  as_kept h e = ap (λ (k : ℕ). is_wrong k u v) (sym h.said.vertices) ∙ e
+pub edge_early : {q : Option Progress} → q ≡ None → (l u v : ℕ) (ms : List ℕ) (s : State) → Stands s q ms → Comes (next l s (edge u v)) (Err (DimacsLine l)) ms
+unfolding next
+edge_early {q} e l u v ms s h = go s (subst (λ (q : Option Progress). Stands s q ms) e h)
+  where
+    go : (s : State) → Stands s None ms → Comes (next l s (edge u v)) (Err (DimacsLine l)) ms
+    go start h = refl
+    go (graph n m es) h = absurd h.said
 
-  pub edge_refused : (after : List ℕ) (s : State) → Stands s p ms → is_wrong p.vertices u v ≡ true
-      → Comes (next l s (edge u v)) (steps.Refused (DimacsLine l)) after
+module _ {q : Option Progress} {p : Progress} (kept : q ≡ Some p) (l u v : ℕ) (ms : List ℕ) where
+  -- n, m and the edges: what the definition asks of n is asked of the number kept
+  in_graph : {b : Bool} (r : Result (Option Progress) Refusal) (after : List ℕ) (s : State) → Stands s q ms → is_wrong p.vertices u v ≡ b
+      → ((n m : ℕ) (es : List Edge) → Stands (graph n m es) (Some p) ms → is_wrong n u v ≡ b → Comes (next l (graph n m es) (edge u v)) r after)
+      → Comes (next l s (edge u v)) r after
+  in_graph {b} r after s h e f = go s (subst (λ (q : Option Progress). Stands s q ms) kept h)
+    where
+      go : (s : State) → Stands s (Some p) ms → Comes (next l s (edge u v)) r after
+      go start h = absurd h.said
+      go (graph n m es) h = f n m es h (ap (λ (k : ℕ). is_wrong k u v) (sym h.said.vertices) ∙ e)
+
+  pub edge_refused : (after : List ℕ) (s : State) → Stands s q ms → is_wrong p.vertices u v ≡ true → Comes (next l s (edge u v)) (Err (DimacsLine l)) after
   unfolding next
-  edge_refused after start h e = refl
-  edge_refused after (graph n m es) h e =
-      subst (λ (x : Reply State). Comes x (steps.Refused (DimacsLine l)) after)
-      (sym (first_holds (line_cause (is_wrong n u v) l) [] _ (as_kept h e))) refl
+  edge_refused after s h e =
+      in_graph (Err (DimacsLine l)) after s h e (λ n m es h wrong.
+      subst (λ (x : Reply State). Comes x (Err (DimacsLine l)) after) (sym (first_holds (line_cause (is_wrong n u v) l) [] _ wrong)) refl)
 
-  pub edge_comes : (s : State) {after : List ℕ} → Stands s p ms → is_wrong p.vertices u v ≡ false → after ≡ linked ms (u - 1) (v - 1)
-      → Comes (next l s (edge u v)) (steps.Next (record { vertices = p.vertices; edges = p.edges; read = p.read + 1 })) after
+  pub edge_comes : (s : State) {after : List ℕ} → Stands s q ms → is_wrong p.vertices u v ≡ false → after ≡ linked ms (u - 1) (v - 1)
+      → Comes (next l s (edge u v)) (Ok (Some (record { vertices = p.vertices; edges = p.edges; read = p.read + 1 }))) after
   unfolding next first_cause
-  edge_comes start h e f = absurd (omega (arith, h.said.0, (right p.vertices u v e).first))
-  edge_comes (graph n m es) {after} h e f =
-      let r = right n u v (as_kept h e) in
+  edge_comes s {after} h e f =
+      in_graph _ after s h e (λ n m es h fits.
+      let r = right n u v fits in
       let o = h.said in
-      let done = first_skips (line_cause (is_wrong n u v) l) [] (answered 0 (graph n m (edge_of u v ∷ es))) (as_kept h e) in
-      subst (λ (x : Reply State). Comes x (steps.Next (record { vertices = p.vertices; edges = p.edges; read = p.read + 1 })) after) (sym done)
+      let done = first_skips (line_cause (is_wrong n u v) l) [] (answered 0 (graph n m (edge_of u v ∷ es))) fits in
+      subst (λ (x : Reply State). Comes x (Ok (Some (record { vertices = p.vertices; edges = p.edges; read = p.read + 1 }))) after) (sym done)
       (record {
         sound = (after_edge l n m u v es done).sound h.sound;
         said = record { vertices = o.vertices; edges = o.edges; read = omega (arith, o.read) };
         rows =
             f ∙ ap (λ (g : List ℕ). linked g (u - 1) (v - 1)) h.rows
             ∙ rows_linked width (edge_of u v) es (omega (arith, r.first, h.sound.most)) (omega (arith, r.second, h.sound.most));
-      })
+      }))

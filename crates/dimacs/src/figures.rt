@@ -1,69 +1,40 @@
 // Figures: decimal digits without leading zeros, of any length.
-ghost use Rattle.std.specs.Prelude.{◌≡◌, ◌≤◌};
-ghost use Rattle.dimacs.specs.Figures.{decimal_value};
-ghost use Rattle.dimacs.specs.Setting.{capped, digits_value, figure_value};
+ghost use Rattle.std.specs.Prelude.{◌≡◌};
+ghost use Rattle.dimacs.specs.Setting.{digit_value, digits_value, figure_value};
 
-// The most that the number of edges can be. A larger number is told as ABOVE, whatever it is, and what is no figure as NO_FIGURE.
+// The most that the number of edges can be. A larger number is told as ABOVE, whatever it is.
 pub const MOST_EDGES: usize = 4294967295;
 
 const ABOVE: usize = MOST_EDGES + 1;
 
-pub const NO_FIGURE: usize = MOST_EDGES + 2;
-
-const ZERO: u8 = 48;
-
-// The value of what is no digit.
-const NO_DIGIT: usize = 10;
-
-// The value of the byte b as a digit.
-fn value(b: u8) -> usize
-    ensures { result ≡ decimal_value b }
+// The value of the byte b, where it is a digit.
+fn value(b: u8) -> Option<usize>
+    ensures { result ≡ digit_value b }
 {
     match b {
-        48..=57 => (b - 48) as usize,
-        _ => NO_DIGIT,
+        b'0'..=b'9' => Some(usize::from(b - b'0')),
+        _ => None,
     }
 }
 
-// x, or ABOVE where x is greater.
-fn cap(x: usize) -> usize
-    ensures { result ≡ capped x }
-{
-    if x < ABOVE {
-        return x;
-    }
-    ABOVE
-}
-
-// The number that the bytes of the text are as digits.
-fn digits(text: &[u8]) -> usize
+// The number that the bytes of the text are, where all of them are digits.
+fn digits(text: &[u8]) -> Option<usize>
     ensures { result ≡ digits_value text.now }
 {
     let mut x = 0;
-    let mut i = 0;
-    while i < text.len() {
-        let d = value(text[i]);
-        if NO_DIGIT <= d {
-            return NO_FIGURE;
-        }
-        x = cap(x * 10 + d);
-        i += 1;
+    for b in text {
+        x = (x * 10 + value(*b)?).min(ABOVE);
     }
-    x
+    Some(x)
 }
 
-// The number that the text is as a figure.
-pub fn figure(text: &[u8]) -> usize
+// The number that the text is, where it is a figure.
+pub fn figure(text: &[u8]) -> Option<usize>
     ensures { result ≡ figure_value text.now }
 {
-    if text.len() == 0 {
-        return NO_FIGURE;
-    }
-    if text.len() == 1 {
-        return digits(text);
-    }
-    if text[0] == ZERO {
-        return NO_FIGURE;
+    let (first, rest) = text.split_first()?;
+    if *first == b'0' && !rest.is_empty() {
+        return None;
     }
     digits(text)
 }

@@ -1,6 +1,7 @@
-// A line reader: the text, and the position of the next line. There are few functions over it, and each leaves the work to one with plain parameters.
-ghost use Rattle.std.specs.Prelude.{◌≡◌, ◌<◌, length};
-ghost use Rattle.dimacs.specs.Setting.{FirstLine};
+// A line reader: the text, and the position of the next line.
+ghost use Rattle.std.specs.Prelude.{◌≡◌, ◌-◌, length};
+ghost use Rattle.std.specs.Iterator.{at_most};
+ghost use Rattle.dimacs.specs.Setting.{GivesLine};
 
 use crate::lines;
 use crate::lines::Line;
@@ -11,25 +12,29 @@ pub struct Reader<'a> {
     pub at: usize,
 }
 
-// A reader of the text whose next line is at the position `at`.
-pub fn reader_at<'a>(text: &'a [u8], at: usize) -> Reader<'a>
-    ensures { (result.text ≡ text.entry) × (result.at ≡ at) }
-{
-    Reader { text, at }
+impl<'a> Reader<'a> {
+    // A reader of the text, before its first line.
+    pub fn new(text: &'a [u8]) -> Reader<'a>
+        ensures { (result.text ≡ text.entry) × (result.at ≡ 0) }
+    {
+        Reader { text, at: 0 }
+    }
 }
 
-// The next line.
-pub fn next_line<'a>(reader: Reader<'a>) -> Line
-    requires { reader.at < length reader.text.now }
-    ensures { FirstLine reader.entry.text.now reader.entry.at result }
-{
-    lines::line_from(reader.text, reader.at)
-}
+// The lines from the position on.
+impl<'a> Iterator for Reader<'a> {
+    type Item = Line;
 
-// The line of the text at the position `at`, for callers that hold no reader.
-pub fn line_at(text: &[u8], at: usize) -> Line
-    requires { at < length text.now }
-    ensures { FirstLine text.now at result }
-{
-    next_line(reader_at(text, at))
+    ghost next_gives = { GivesLine };
+
+    ghost remaining = { λ r. at_most (length r.text.now - r.at) };
+
+    fn next(&mut self) -> Option<Line> {
+        if self.text.len() <= self.at {
+            return None;
+        }
+        let line = lines::line_from(self.text, self.at);
+        self.at = line.next;
+        Some(line)
+    }
 }

@@ -4,19 +4,13 @@
 --   refusal               a refusal as a reply
 --   looseness_reply g s    the answer to: how loose is s?
 --   maximal_reply g k s    the answer to: is s a maximal k-plex?
-use Rattle.std.specs.Prelude.{ℕ, Bool, true, false, List, [], ◌∷◌, ◌++◌, length}
+use Rattle.std.specs.Prelude.{ℕ, Bool, List, [], ◌∷◌, ◌++◌, length, Result, Ok, Err}
 use Rattle.judging.specs.Plex.{maximal, looseness}
 use Rattle.judging.specs.Request.{Request}
 use Rattle.judging.specs.Refusal.{Reply, refused, answered, Cause, first_cause, vertex_cause, slack_cause, floor_cause, graph_causes, set_cause}
 use Rattle.judging.specs.declared.Refusal.{Refusal}
 use Rattle.judging.specs.declared.Refusal.TheVariants.{Vertices, Slack, Floor, Row, OneWay, Slots, Outside, Line, Room, Bound}
 use Rattle.judging.specs.declared.Refusal.TheVariants.{Forced, Loop, Unchanged, Isolated, DimacsLine, EdgeCount}
-use Rattle.judging.specs.declared.Checked.{Checked}
-use Rattle.judging.specs.declared.Checked.TheVariants.{Passed, Failed}
-use Rattle.judging.specs.declared.LoosenessFound.{LoosenessFound}
-use Rattle.judging.specs.declared.LoosenessFound.TheVariants as loosenessFound
-use Rattle.judging.specs.declared.Judged.{Judged}
-use Rattle.judging.specs.declared.Judged.TheVariants.{Yes, No, Refused}
 
 abbrev pub number_of : Refusal → ℕ
 number_of Vertices = 1
@@ -62,9 +56,9 @@ refusal f = refused (number_of f) (value_of f)
 abbrev pub passed : Reply (Unit {0})
 passed = answered 0 tt
 
-abbrev pub checked_reply : Checked → Reply (Unit {0})
-checked_reply Passed = passed
-checked_reply (Failed f) = refusal f
+abbrev pub checked_reply : Result (Unit {0}) Refusal → Reply (Unit {0})
+checked_reply (Ok _) = passed
+checked_reply (Err f) = refusal f
 
 -- 1, 4, 5
 unfoldable pub graph_check : List ℕ → List Cause
@@ -96,17 +90,18 @@ set_check g k s = slack_check g k ++ set_cause g s ∷ []
 
 -- ---- the public calls
 
-abbrev pub looseness_found_reply : LoosenessFound → Reply ℕ
-looseness_found_reply (loosenessFound.Looseness m) = answered 0 m
-looseness_found_reply (loosenessFound.Refused f) = refusal f
+-- what is found, as the reply of a call whose value is 0
+abbrev pub found_reply : {A : Type 0} → Result A Refusal → Reply A
+found_reply (Ok a) = answered 0 a
+found_reply (Err f) = refusal f
+
+-- a number that is the value of the call and says all
+abbrev pub valued_reply : Result ℕ Refusal → Reply (Unit {0})
+valued_reply (Ok m) = answered m tt
+valued_reply (Err f) = refusal f
 
 unfoldable pub looseness_reply : List ℕ → ℕ → Reply ℕ
 looseness_reply g s = first_cause (inside_check g s) (answered 0 (looseness g s))
-
-abbrev pub judged_reply : Judged → Reply Bool
-judged_reply Yes = answered 0 true
-judged_reply No = answered 0 false
-judged_reply (Refused f) = refusal f
 
 unfoldable pub maximal_reply : List ℕ → ℕ → ℕ → Reply Bool
 maximal_reply g k s = first_cause (set_check g k s) (answered 0 (maximal g k s))

@@ -12,7 +12,7 @@ pub fn missing(rows: &[u64], s: Set, v: usize) -> usize
     requires { v < length (masks rows.now) }
     ensures { (result ≡ missing (masks rows.now) (mask s) v) × (result ≤ width) }
 {
-    sets::size(sets::minus(s, sets::get(rows, v)))
+    s.minus(sets::get(rows, v)).size()
 }
 
 // The most members of s that a member misses, itself counted; 0 for no members. s is a k-plex where this is at most k.
@@ -31,12 +31,12 @@ pub fn is_extendable(rows: &[u64], k: usize, s: Set, free: Set) -> bool
     ensures { result ≡ extendable (masks rows.now) k (mask s) }
 {
     let mut left = free;
-    while !sets::is_empty(left) {
-        let x = sets::lowest(left);
+    while !left.is_empty() {
+        let x = left.lowest();
         if missing(rows, s, x) < k {
             return true;
         }
-        left = sets::rest(left, x);
+        left = left.rest(x);
     }
     false
 }

@@ -21,7 +21,7 @@ fn narrow(free: Set, row: Set, k: usize, m: usize) -> Set
     ensures { (k ≤ m → mask result ≡ bit_and (mask free) (mask row)) × (m < k → mask result ≡ mask free) }
 {
     if k <= m {
-        return sets::meet(free, row);
+        return free.meet(row);
     }
     free
 }
@@ -34,11 +34,11 @@ pub fn survey(rows: &[u64], k: usize, a: Set) -> Findings
 {
     let mut most = 0;
     let mut worst = 0;
-    let mut free = sets::minus(sets::full(sets::count(rows)), a);
+    let mut free = Set::full(sets::count(rows)).minus(a);
     let mut left = a;
-    while !sets::is_empty(left) {
-        let v = sets::lowest(left);
-        left = sets::rest(left, v);
+    while !left.is_empty() {
+        let v = left.lowest();
+        left = left.rest(v);
         let m = crate::plex::missing(rows, a, v);
         free = narrow(free, sets::get(rows, v), k, m);
         if most < m {

@@ -1,187 +1,164 @@
 // The answers of the layers as outcomes.
 ghost use Rattle.std.specs.Prelude.{◌≡◌};
-ghost use Rattle.judging.specs.Calls.{looseness_found_reply, judged_reply};
+ghost use Rattle.sets.specs.Set.{size};
+ghost use Rattle.sets.specs.Words.{mask};
 ghost use Rattle.bounds.specs.Calls.{core_found_reply, reach_found_reply};
-ghost use Rattle.bounds.specs.BoundCalls.{bound_found_reply};
-ghost use Rattle.search.specs.Calls.{list_found_reply};
 ghost use Rattle.largest.specs.Calls.{largest_found_reply};
-ghost use Rattle.sheets.specs.Calls.{read_reply, written_reply};
-ghost use Rattle.dimacs.specs.Calls as dimacs;
+ghost use Rattle.sheets.specs.Calls.{read_reply};
 ghost use Rattle.judging.specs.Refusal.{answered};
-ghost use Rattle.judging.specs.Calls.{refusal};
+ghost use Rattle.judging.specs.Calls.{refusal, found_reply, valued_reply};
 ghost use Rattle.kadvisk.specs.Outcome.{outcome, core_outcome, read_outcome, yes_no, itself, nothing};
 
 use crate::{CoreOutcome, Outcome, ReadOutcome};
-use bounds::{BoundFound, CoreFound, ReachFound};
-use dimacs::DimacsRead;
-use judging::{Judged, LoosenessFound, Refusal};
-use largest::LargestFound;
-use search::ListFound;
-use sheets::{SheetRead, SheetWritten};
+use bounds::cores::Peeled;
+use judging::Refusal;
+use sets::Set;
+use sheets::Sheet;
 
-// A success that found x.
-fn found(x: u64) -> Outcome
-    ensures { result ≡ outcome itself (answered 0 x) }
-{
-    Outcome {
-        number: 0,
-        value: 0,
-        found: x,
+impl Outcome {
+    // A success that found x.
+    fn found(x: u64) -> Outcome
+        ensures { result ≡ outcome itself (answered 0 x) }
+    {
+        Outcome {
+            number: 0,
+            value: 0,
+            found: x,
+        }
+    }
+
+    // A success whose value says all.
+    fn valued(x: usize) -> Outcome
+        ensures { result ≡ outcome nothing (answered x tt) }
+    {
+        Outcome {
+            number: 0,
+            value: x,
+            found: 0,
+        }
     }
 }
 
-// A success whose value says all.
-fn valued(x: usize) -> Outcome
-    ensures { result ≡ outcome nothing (answered x tt) }
-{
-    Outcome {
-        number: 0,
-        value: x,
-        found: 0,
+impl From<Refusal> for Outcome {
+    ghost from_gives = { λ f o. o ≡ outcome nothing (refusal f) };
+
+    fn from(f: Refusal) -> Outcome {
+        Outcome {
+            number: f.number(),
+            value: f.value(),
+            found: 0,
+        }
     }
 }
 
-fn refused(f: Refusal) -> Outcome
-    ensures { result ≡ outcome nothing (refusal f) }
-{
-    let number = judging::number(f);
-    let value = judging::value(f);
-    Outcome {
-        number,
-        value,
-        found: 0,
+impl From<Refusal> for CoreOutcome {
+    ghost from_gives = { λ f o. o ≡ core_outcome (refusal f) };
+
+    fn from(f: Refusal) -> CoreOutcome {
+        CoreOutcome {
+            number: f.number(),
+            value: f.value(),
+            core: 0,
+            passes: 0,
+        }
     }
 }
 
-pub fn loose(answer: LoosenessFound) -> Outcome
-    ensures { result ≡ outcome itself (looseness_found_reply answer) }
+impl From<Refusal> for ReadOutcome {
+    ghost from_gives = { λ f o. o ≡ read_outcome (refusal f) };
+
+    fn from(f: Refusal) -> ReadOutcome {
+        ReadOutcome {
+            number: f.number(),
+            value: f.value(),
+            vertices: 0,
+            slack: 0,
+            floor: 0,
+            silent: 0,
+        }
+    }
+}
+
+// A `Result<usize, Refusal>` becomes an outcome in two ways, as what is found or as the value, so these are functions and no `From`.
+
+// A looseness, or a bound.
+pub fn number(answer: Result<usize, Refusal>) -> Outcome
+    ensures { result ≡ outcome itself (found_reply answer) }
 {
     match answer {
-        LoosenessFound::Looseness(m) => found(m as u64),
-        LoosenessFound::Refused(f) => refused(f),
+        Ok(x) => Outcome::found(x as u64),
+        Err(f) => Outcome::from(f),
     }
 }
 
-pub fn judged(answer: Judged) -> Outcome
-    ensures { result ≡ outcome yes_no (judged_reply answer) }
+// The length of a list or a sheet, or a number of vertices.
+pub fn value(answer: Result<usize, Refusal>) -> Outcome
+    ensures { result ≡ outcome nothing (valued_reply answer) }
 {
     match answer {
-        Judged::Yes => found(1),
-        Judged::No => found(0),
-        Judged::Refused(f) => refused(f),
+        Ok(x) => Outcome::valued(x),
+        Err(f) => Outcome::from(f),
     }
 }
 
-pub fn core(answer: CoreFound) -> CoreOutcome
+pub fn judged(answer: Result<bool, Refusal>) -> Outcome
+    ensures { result ≡ outcome yes_no (found_reply answer) }
+{
+    match answer {
+        Ok(true) => Outcome::found(1),
+        Ok(false) => Outcome::found(0),
+        Err(f) => Outcome::from(f),
+    }
+}
+
+pub fn core(answer: Result<Peeled, Refusal>) -> CoreOutcome
     ensures { result ≡ core_outcome (core_found_reply answer) }
 {
     match answer {
-        CoreFound::Core(peeled) => {
-            let core = peeled.core;
-            CoreOutcome {
-                number: 0,
-                value: 0,
-                core: sets::word(core, 0),
-                passes: peeled.passes,
-            }
-        }
-        CoreFound::Refused(f) => {
-            let number = judging::number(f);
-            let value = judging::value(f);
-            CoreOutcome {
-                number,
-                value,
-                core: 0,
-                passes: 0,
-            }
-        }
+        Ok(peeled) => CoreOutcome {
+            number: 0,
+            value: 0,
+            core: peeled.core.word(0),
+            passes: peeled.passes,
+        },
+        Err(f) => CoreOutcome::from(f),
     }
 }
 
-pub fn reach(answer: ReachFound) -> Outcome
+pub fn reach(answer: Result<Set, Refusal>) -> Outcome
     ensures { result ≡ outcome itself (reach_found_reply answer) }
 {
     match answer {
-        ReachFound::Reach(s) => found(sets::word(s, 0)),
-        ReachFound::Refused(f) => refused(f),
+        Ok(s) => Outcome::found(s.word(0)),
+        Err(f) => Outcome::from(f),
     }
 }
 
-pub fn bound(answer: BoundFound) -> Outcome
-    ensures { result ≡ outcome itself (bound_found_reply answer) }
-{
-    match answer {
-        BoundFound::Bound(b) => found(b as u64),
-        BoundFound::Refused(f) => refused(f),
-    }
-}
-
-pub fn listed(answer: ListFound) -> Outcome
-    ensures { result ≡ outcome nothing (list_found_reply answer) }
-{
-    match answer {
-        ListFound::Listed(m) => valued(m),
-        ListFound::Refused(f) => refused(f),
-    }
-}
-
-pub fn largest(answer: LargestFound) -> Outcome
+pub fn largest(answer: Result<Set, Refusal>) -> Outcome
     ensures { result ≡ outcome itself (largest_found_reply answer) }
 {
     match answer {
-        LargestFound::Found(s) => Outcome {
+        Ok(s) => Outcome {
             number: 0,
-            value: sets::size(s),
-            found: sets::word(s, 0),
+            value: s.size(),
+            found: s.word(0),
         },
-        LargestFound::Refused(f) => refused(f),
+        Err(f) => Outcome::from(f),
     }
 }
 
-pub fn written(answer: SheetWritten) -> Outcome
-    ensures { result ≡ outcome nothing (written_reply answer) }
-{
-    match answer {
-        SheetWritten::Written(length) => valued(length),
-        SheetWritten::Refused(f) => refused(f),
-    }
-}
-
-pub fn read(answer: SheetRead) -> ReadOutcome
+pub fn read(answer: Result<Sheet, Refusal>) -> ReadOutcome
     ensures { result ≡ read_outcome (read_reply answer) }
 {
     match answer {
-        SheetRead::Read { vertices, request } => {
-            let silent = request.silent;
-            ReadOutcome {
-                number: 0,
-                value: 0,
-                vertices,
-                slack: request.slack,
-                floor: request.floor,
-                silent: sets::word(silent, 0),
-            }
-        }
-        SheetRead::Refused(f) => {
-            let number = judging::number(f);
-            let value = judging::value(f);
-            ReadOutcome {
-                number,
-                value,
-                vertices: 0,
-                slack: 0,
-                floor: 0,
-                silent: 0,
-            }
-        }
-    }
-}
-
-pub fn dimacs_read(answer: DimacsRead) -> Outcome
-    ensures { result ≡ outcome nothing (dimacs.read_reply answer) }
-{
-    match answer {
-        DimacsRead::Read(n) => valued(n),
-        DimacsRead::Refused(f) => refused(f),
+        Ok(sheet) => ReadOutcome {
+            number: 0,
+            value: 0,
+            vertices: sheet.vertices,
+            slack: sheet.request.slack,
+            floor: sheet.request.floor,
+            silent: sheet.request.silent.word(0),
+        },
+        Err(f) => ReadOutcome::from(f),
     }
 }

@@ -17,6 +17,7 @@ mod answer;
 
 use judging::Request;
 use search::Cuts;
+use sets::Set;
 
 // The outcome of a call. `number` is 0 for a success and else document 01's number of the refusal. `found` is what a question found: a looseness, 1 or 0
 // for yes or no, a set's mask, a bound; it is 0 with a refusal, and where `value` says all. Of a largest k-plex `value` is the size and `found` the mask.
@@ -56,8 +57,7 @@ pub struct ReadOutcome {
 pub extern "C" fn kadvisk_looseness(rows: &[u64], s: u64) -> Outcome
     ensures { result ≡ outcome itself (looseness_reply (masks rows.now) s) }
 {
-    let found = judging::looseness(rows, sets::of_word(s));
-    answer::loose(found)
+    answer::number(judging::looseness(rows, Set::from(s)))
 }
 
 // Is the set of the mask s a maximal k-plex of the graph with these rows? Found: 1 for yes, 0 for no. Refusals: 1, 2, 4, 5, 7.
@@ -65,8 +65,7 @@ pub extern "C" fn kadvisk_looseness(rows: &[u64], s: u64) -> Outcome
 pub extern "C" fn kadvisk_is_maximal(rows: &[u64], slack: usize, s: u64) -> Outcome
     ensures { result ≡ outcome yes_no (maximal_reply (masks rows.now) slack s) }
 {
-    let judged = judging::judge_maximal(rows, slack, sets::of_word(s));
-    answer::judged(judged)
+    answer::judged(judging::judge_maximal(rows, slack, Set::from(s)))
 }
 
 // The core for this slack and floor, and the number of passes by rising number that peel it out, the last of which takes none. Refusals: 1, 2, 3, 4, 5.
@@ -74,8 +73,7 @@ pub extern "C" fn kadvisk_is_maximal(rows: &[u64], slack: usize, s: u64) -> Outc
 pub extern "C" fn kadvisk_core(rows: &[u64], slack: usize, floor: usize) -> CoreOutcome
     ensures { result ≡ core_outcome (core_reply (masks rows.now) slack floor) }
 {
-    let found = bounds::find_core(rows, slack, floor);
-    answer::core(found)
+    answer::core(bounds::find_core(rows, slack, floor))
 }
 
 // The two-hop reach of the vertex v. Found: its mask. Refusals: 1, 4, 5, 7.
@@ -83,10 +81,10 @@ pub extern "C" fn kadvisk_core(rows: &[u64], slack: usize, floor: usize) -> Core
 pub extern "C" fn kadvisk_reach(rows: &[u64], v: usize) -> Outcome
     ensures { result ≡ outcome itself (reach_reply (masks rows.now) v) }
 {
-    let found = bounds::find_reach(rows, v);
-    answer::reach(found)
+    answer::reach(bounds::find_reach(rows, v))
 }
 
+// C has a name for each bound, so they stand twice.
 // The first bound on the k-plexes that hold s and v and have no vertex outside s and c. Found: the bound. Refusals: 1, 2, 4, 5, 7, 10.
 #[unsafe(no_mangle)]
 pub extern "C" fn kadvisk_first_bound(
@@ -98,8 +96,8 @@ pub extern "C" fn kadvisk_first_bound(
 ) -> Outcome
     ensures { result ≡ outcome itself (first_bound_reply (masks rows.now) slack s c v) }
 {
-    let found = bounds::first_bound(rows, slack, sets::of_word(s), sets::of_word(c), v);
-    answer::bound(found)
+    let found = bounds::first_bound(rows, slack, Set::from(s), Set::from(c), v);
+    answer::number(found)
 }
 
 // The second bound, which is never above the first. Found: the bound. Refusals: 1, 2, 4, 5, 7, 10.
@@ -113,8 +111,8 @@ pub extern "C" fn kadvisk_second_bound(
 ) -> Outcome
     ensures { result ≡ outcome itself (second_bound_reply (masks rows.now) slack s c v) }
 {
-    let found = bounds::second_bound(rows, slack, sets::of_word(s), sets::of_word(c), v);
-    answer::bound(found)
+    let found = bounds::second_bound(rows, slack, Set::from(s), Set::from(c), v);
+    answer::number(found)
 }
 
 // What is asked: a slack, a floor, and the mask of the silent vertices.
@@ -124,7 +122,7 @@ fn request_of(slack: usize, floor: usize, silent: u64) -> Request
     Request {
         slack,
         floor,
-        silent: sets::of_word(silent),
+        silent: Set::from(silent),
     }
 }
 
@@ -142,7 +140,7 @@ pub extern "C" fn kadvisk_list(
     ensures { ListOutcome (masks rows.now) (request slack floor silent) (masks slots.old) (masks slots.new) result }
 {
     let found = search::list(rows, request_of(slack, floor, silent), slots);
-    answer::listed(found)
+    answer::value(found)
 }
 
 // Makes the vertices a and b adjacent, or not adjacent, in the book of these rows, slack, floor, silent vertices and slots: a graph with its list, which
@@ -171,7 +169,7 @@ pub extern "C" fn kadvisk_change(
         adjacent,
         slots,
     );
-    answer::listed(found)
+    answer::value(found)
 }
 
 // The largest k-plex that holds the set of the mask `forced`, which may be 0. Value: its size. Found: of the k-plexes of that size that hold the forced
@@ -180,22 +178,21 @@ pub extern "C" fn kadvisk_change(
 pub extern "C" fn kadvisk_largest(rows: &[u64], slack: usize, forced: u64) -> Outcome
     ensures { result ≡ outcome itself (largest_reply (masks rows.now) slack forced) }
 {
-    let found = largest::largest(rows, slack, sets::of_word(forced));
-    answer::largest(found)
+    answer::largest(largest::largest(rows, slack, Set::from(forced)))
 }
 
 // The cuts that the bits of a word switch on: bit 0 is the core, and so on in the order of include/kadvisk.h. Every setting gives the same list, so
 // nothing is promised of it.
 fn cuts(flags: u64) -> Cuts {
-    let on = sets::of_word(flags);
+    let on = Set::from(flags);
     Cuts {
-        core: sets::has(on, 0),
-        reach: sets::has(on, 1),
-        pairs: sets::has(on, 2),
-        second: sets::has(on, 3),
-        parted: sets::has(on, 4),
-        extension: sets::has(on, 5),
-        pivot: sets::has(on, 6),
+        core: on.has(0),
+        reach: on.has(1),
+        pairs: on.has(2),
+        second: on.has(3),
+        parted: on.has(4),
+        extension: on.has(5),
+        pivot: on.has(6),
     }
 }
 
@@ -212,7 +209,7 @@ pub extern "C" fn kadvisk_list_with(
     ensures { ListOutcome (masks rows.now) (request slack floor silent) (masks slots.old) (masks slots.new) result }
 {
     let found = search::list_with(rows, request_of(slack, floor, silent), cuts(flags), slots);
-    answer::listed(found)
+    answer::value(found)
 }
 
 // Reads the sheet in the text into the first of the rows; later rows keep their contents.
@@ -221,8 +218,7 @@ pub extern "C" fn kadvisk_list_with(
 pub extern "C" fn kadvisk_read_sheet(text: &[u8], rows: &mut [u64]) -> ReadOutcome
     ensures { ReadSheetOutcome text.now (masks rows.old) (masks rows.new) result }
 {
-    let read = sheets::read_sheet(text, rows);
-    answer::read(read)
+    answer::read(sheets::read_sheet(text, rows))
 }
 
 // Writes the sheet of the graph and the request to the front of the text; the bytes beyond it keep theirs. Value: its length, 24 + 17n.
@@ -238,7 +234,7 @@ pub extern "C" fn kadvisk_write_sheet(
     ensures { WriteSheetOutcome (masks rows.now) (request slack floor silent) text.old text.new result }
 {
     let written = sheets::write_sheet(rows, request_of(slack, floor, silent), text);
-    answer::written(written)
+    answer::value(written)
 }
 
 // Reads the graph in the DIMACS form in the text into the first of the rows; later rows keep their contents. Value: n.
@@ -247,6 +243,5 @@ pub extern "C" fn kadvisk_write_sheet(
 pub extern "C" fn kadvisk_read_dimacs(text: &[u8], rows: &mut [u64]) -> Outcome
     ensures { ReadDimacsOutcome text.now (masks rows.old) (masks rows.new) result }
 {
-    let read = dimacs::read_dimacs(text, rows);
-    answer::dimacs_read(read)
+    answer::value(dimacs::read_dimacs(text, rows))
 }

@@ -1,3 +1,4 @@
--- What the call answers once its checks have passed, and what an accepted answer means.
+-- What the call answers once its checks have passed, what an accepted answer means, and what a test of the code says.
 pub mod ForcedLaws
 pub mod OutcomeLaws
+pub mod TestLaws

@@ -8,13 +8,11 @@ use Rattle.judging.specs.Plex.{looseness}
 use Rattle.judging.specs.LoosenessLaws.{loose_plex}
 use Rattle.judging.specs.Request.{request}
 use Rattle.judging.specs.Refusal.{first_cause, set_cause}
-use Rattle.judging.specs.Calls.{refusal, passed, checked_reply, slack_check, set_check}
+use Rattle.judging.specs.Calls.{refusal, passed, slack_check, set_check}
 use Rattle.judging.specs.RefusalLaws.{passed_front, slack_accepted}
 use Rattle.judging.proofs.PassedLaws.{set_checked}
 use Rattle.judging.specs.CallLaws.{front_refused}
 use Rattle.judging.specs.declared.Refusal.{Refusal}
-use Rattle.judging.specs.declared.Checked.{Checked}
-use Rattle.judging.specs.declared.Checked.TheVariants.{Failed}
 use Rattle.search.specs.Start.{Searchable}
 use Rattle.largest.specs.Fit.{Forced}
 use Rattle.largest.specs.Calls.{forced_cause, forced_check, largest_reply}
@@ -35,6 +33,6 @@ pub set_forced : (g : List ℕ) (k f : ℕ) → first_cause (set_check g k f) pa
 set_forced g k f e h = record { below = (set_checked g k f e).inside.below; plexed = loose_plex g k f h }
 
 module _ (g : List ℕ) (k f : ℕ) where
-  pub reply_refused : {r : Checked} {x : Refusal} → checked_reply r ≡ first_cause (set_check g k f) passed → r ≡ Failed x → largest_reply g k f ≡ refusal x
+  pub reply_refused : (x : Refusal) → refusal x ≡ first_cause (set_check g k f) passed → largest_reply g k f ≡ refusal x
   unfolding largest_reply forced_check
-  reply_refused h e = sym (front_refused (set_check g k f) (forced_cause g k f ∷ []) _ h e)
+  reply_refused x h = sym (front_refused (set_check g k f) (forced_cause g k f ∷ []) _ x h)

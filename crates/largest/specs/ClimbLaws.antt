@@ -1,12 +1,13 @@
 -- Laws of the climb. A larger plex is sought until there is none; then, from the highest candidate h down, a plex of that size is sought that lacks h: one
 -- that is found is lower, and where there is none every lower one has h.
-use Rattle.std.specs.Prelude.{ℕ, ◌+◌, ◌^◌, ◌≤◌, ◌<◌, ◌≡◌, refl, List, length}
+use Rattle.std.specs.Prelude.{ℕ, ◌+◌, ◌^◌, ◌≤◌, ◌<◌, ◌≡◌, refl, List, length, Option, None, Some}
 use Rattle.std.proofs.Common.{arith, pow_pos}
 use Rattle.std.proofs.Math.Decide.{dec_lt}
 use Rattle.std.specs.Int.Bits.{bit_or}
 use Rattle.std.proofs.lemmas.Nat.{ones-le}
 use Rattle.sets.specs.Set.{bit, In, Sub, size, with, without}
-use Rattle.sets.specs.Words.{width, Lowest}
+use Rattle.sets.specs.Words.{width, mask, Lowest}
+use Rattle.sets.specs.declared.Set.{Set}
 use Rattle.sets.specs.BitLaws.{ext, bit_le, bit-bit_or, bit-minus}
 use Rattle.sets.specs.PointLaws.{bit_none, in_single, single_out, by_bit, none_out}
 use Rattle.sets.specs.SubsetLaws.{sub_refl, sub_trans, sub_with, minus-sub, without_same, with_below, positive}
@@ -22,7 +23,7 @@ use Rattle.search.specs.Ready.{Settled, Ready}
 use Rattle.largest.specs.Largest.{Holding, Largest}
 use Rattle.largest.specs.LargestLaws.{none_larger, top_listed}
 use Rattle.largest.specs.Sought.{Within, Sought}
-use Rattle.largest.specs.SoughtLaws.{sought_some, within_part, without_ready}
+use Rattle.largest.specs.SoughtLaws.{within_part, without_ready}
 use Rattle.largest.specs.Fit.{Fitted}
 use Rattle.largest.specs.FitLaws.{join_ready}
 use Rattle.largest.specs.Climb.{Top, Held, Highest, Topmost, Sparing, Spared, Lowering}
@@ -42,15 +43,12 @@ settled_higher l b h =
     }
 
 -- what is sought beside all forced vertices
-pub fitted_held : {g : List ℕ} {k q f c r : ℕ} → Fitted g (request k q 0) f c → Sought g (request k q 0) f c r → Held g k q f r
-fitted_held fit w =
-    record {
-      some = λ l. let found = w.some l in (record { below = found.below; lower = found.lower; plexed = found.plexed }, found.large);
-      none = λ z. none_larger (λ y h p. w.none z y (fit.found y h p));
-    }
+pub fitted_held : {g : List ℕ} {k q f c : ℕ} (r : Option Set) → Fitted g (request k q 0) f c → Sought g (request k q 0) f c r → Held g k q f r
+fitted_held (Some x) fit w = (record { below = w.below; lower = w.lower; plexed = w.plexed }, w.large)
+fitted_held None fit none = none_larger (λ y h p. none y (fit.found y h p))
 
-pub held_top : {g : List ℕ} {k f w q r : ℕ} → Holding g k f w → q ≡ size w + 1 → Held g k q f r → r ≡ 0 → Top g k f w
-held_top h e n z = record { holds = h; top = λ t y. omega (arith, n.none z t y, e) }
+pub held_top : {g : List ℕ} {k f w q : ℕ} → Holding g k f w → q ≡ size w + 1 → Held g k q f None → Top g k f w
+held_top h e none = record { holds = h; top = λ t y. omega (arith, none t y, e) }
 
 -- no plex has more members than there are vertices
 pub all_top : {g : List ℕ} {k f w : ℕ} → Holding g k f w → length g ≤ size w → Top g k f w
@@ -102,12 +100,12 @@ module _ {g t : List ℕ} {ask : Request} {s c h rest w : ℕ} (p : Sparing g t 
   sparing_order x y lx ux ly uy o i = order_highest x y h o i (λ u l. omega (arith, above x lx ux u l, above y ly uy u l))
 
   -- w lacks it
-  pub spared_itself : bit w h ≡ 0 → Spared g ask s rest w w
-  spared_itself o =
+  pub spared_itself : {x : Set} → mask x ≡ w → bit w h ≡ 0 → Spared g ask s rest w (Some x)
+  spared_itself {x} e o =
       let within = p.within in
       rw p.others (record {
         sought =
-            sought_some p.floor (record {
+            rw e (record {
               below = within.below;
               plexed = within.plexed;
               large = within.large;
@@ -115,7 +113,7 @@ module _ {g t : List ℕ} {ask : Request} {s c h rest w : ℕ} (p : Sparing g t 
               upper = λ u.
                   omega (arith, within.upper u, bit-bit_or s c u, bit-bit_or s (without c h) u, bit-minus c (2 ^ h) u, single_out w h u o, bit_le w u);
             });
-        lower = λ l. omega arith;
+        lower = omega (arith, e);
       })
 
   -- what is found with the others lacks it
@@ -124,14 +122,14 @@ module _ {g t : List ℕ} {ask : Request} {s c h rest w : ℕ} (p : Sparing g t 
       omega (arith, rw p.others at (y.upper h), bit-bit_or s (without c h) h, without_same c h, p.ready.fine.apart h p.highest.member)
 
   -- one that lacks it is sought
-  pub spared_sought : {r : ℕ} → In h w → Sought g ask s rest r → Spared g ask s rest w r
-  spared_sought {r} i y =
+  pub spared_sought : (r : Option Set) → In h w → Sought g ask s rest r → Spared g ask s rest w r
+  spared_sought None i none = record { sought = none; lower = tt }
+  spared_sought (Some x) i one =
       record {
-        sought = y;
-        lower = λ l.
-            let one = y.some l in
+        sought = one;
+        lower =
             let inside = within_part c (minus-sub c (2 ^ h)) (rw p.others at one) in
-            omega (arith, sparing_order r w one.lower inside.upper p.within.lower p.within.upper (spared_out one) i);
+            omega (arith, sparing_order (mask x) w one.lower inside.upper p.within.lower p.within.upper (spared_out one) i);
       }
 
 -- ---- the lowest mask
@@ -188,10 +186,21 @@ module _ {g t : List ℕ} {k q f s c w : ℕ} (l : Lowering g t (request k q 0) 
   holds : Holding g ask.slack f w
   holds = record { below = l.within.below; lower = sub_trans f s w l.forced l.within.lower; plexed = l.within.plexed }
 
-  module _ {h rest r : ℕ} (p : Sparing g t ask s c h rest w) (y : Spared g ask s rest w r) where
-    pub lowering_lower : 0 < r → Lowering g t ask f s rest r
-    lowering_lower less =
-        let one = y.sought.some less in
+  pub lowering_sparing : {h rest : ℕ} → Highest c h → rest ≡ without c h → Sparing g t ask s c h rest w
+  lowering_sparing high e =
+      let top : Top g k f w = record { holds = holds; top = λ y z. omega (arith, l.top y z, l.within.large) } in
+      record {
+        ready = l.ready;
+        floor = omega (arith, top_some l.ready.settled.sized.some l.ready.settled.slack.0 top, l.top w holds);
+        highest = high;
+        others = e;
+        within = l.within;
+      }
+
+  module _ {h rest : ℕ} (p : Sparing g t ask s c h rest w) where
+    pub lowering_lower : {r : Set} → Spared g ask s rest w (Some r) → Lowering g t ask f s rest (mask r)
+    lowering_lower {r} y =
+        let one = y.sought in
         let inside = within_part c (minus-sub c (2 ^ h)) (rw p.others at one) in
         record {
           ready = sparing_ready p;
@@ -199,16 +208,16 @@ module _ {g t : List ℕ} {k q f s c w : ℕ} (l : Lowering g t (request k q 0) 
           top = l.top;
           within = one;
           found = λ x listed q below.
-              let f : Found g ask s c x = l.found x listed q (omega (arith, below, y.lower less)) in
+              let f : Found g ask s c x = l.found x listed q (omega (arith, below, y.lower)) in
               rw p.others (without_found h f (by_bit x h (λ i. absurd (omega (
                 arith,
                 below,
-                sparing_order p r x one.lower inside.upper f.lower f.upper (spared_out p one) i,
+                sparing_order p (mask r) x one.lower inside.upper f.lower f.upper (spared_out p one) i,
               ))) (λ o. o)));
         }
 
-    pub lowering_with : {d j : ℕ} → r ≡ 0 → Beside g ask s c h d → j ≡ with s h → Lowering g t ask f j d w
-    lowering_with {d} {j} z b e =
+    pub lowering_with : {d j : ℕ} → Spared g ask s rest w None → Beside g ask s c h d → j ≡ with s h → Lowering g t ask f j d w
+    lowering_with {d} {j} y b e =
         rw e (record {
           ready = join_ready l.ready member b refl;
           forced = sub_trans f s (with s h) l.forced (sub_with s h);
@@ -230,7 +239,7 @@ module _ {g t : List ℕ} {k q f s c w : ℕ} (l : Lowering g t (request k q 0) 
         -- nothing listed lacks h
         all_have : {x : ℕ} → Found g ask s c x → Found g ask (with s h) d x
         all_have {x} f =
-            by_bit x h (λ i. with_found member b f i) (λ o. absurd (y.sought.none z x (rw p.others (without_found h f o))))
+            by_bit x h (λ i. with_found member b f i) (λ o. absurd (y.sought x (rw p.others (without_found h f o))))
 
         itself : Found g ask (with s h) d w
         itself = all_have (record { lower = l.within.lower; upper = l.within.upper; listed = size_listed holds l.within.large })

@@ -78,7 +78,8 @@ member_coloured {g} {k} {s} {c} {m} u b apart i e =
     two : (t : ℕ) → Sub s t → size (minus s (row g u)) + size (bit_and t (minus c (row g u))) ≤ size (minus t (row g u)) + size 0
     two t o =
         size_pair (minus s (row g u)) (bit_and t (minus c (row g u))) (minus t (row g u)) 0 (λ v. by_bit c v
-        (λ j. omega (arith, apart v j, bit-minus s (row g u) v, bit-bit_and t (minus c (row g u)) v, bit-minus c (row g u) v, bit-minus t (row g u) v, bit_le c v))
+        (λ j.
+        omega (arith, apart v j, bit-minus s (row g u) v, bit-bit_and t (minus c (row g u)) v, bit-minus c (row g u) v, bit-minus t (row g u) v, bit_le c v))
         (λ n. omega (arith, o v, bit-minus s (row g u) v, bit-bit_and t (minus c (row g u)) v, bit-minus c (row g u) v, bit-minus t (row g u) v)))
 
 -- and there are no more of them than there are

@@ -1,12 +1,13 @@
 -- Laws of the start of the search: the candidates are narrowed by each vertex that joins, as in the search, and where a forced vertex is none of them any
 -- more, no listed plex holds all forced ones.
-use Rattle.std.specs.Prelude.{ℕ, ◌^◌, ◌≡◌, refl, List, length}
+use Rattle.std.specs.Prelude.{ℕ, ◌^◌, ◌<◌, ◌≡◌, refl, List, length}
 use Rattle.std.proofs.Common.{arith, pow_pos}
 use Rattle.sets.specs.Set.{bit, In, with, without}
 use Rattle.sets.specs.Words.{Lowest}
 use Rattle.sets.specs.BitLaws.{ext, bit_le, bit-bit_or, bit-minus}
 use Rattle.sets.specs.PointLaws.{bit_none, bit_with, single_in, none_out}
-use Rattle.sets.specs.SubsetLaws.{sub_refl, sub_trans, sub_with}
+use Rattle.sets.specs.SubsetLaws.{sub_refl, sub_trans, sub_with, sub_number}
+use Rattle.sets.specs.WalkLaws.{without_less}
 use Rattle.judging.specs.Request.{Request, request}
 use Rattle.search.specs.Found.{Near}
 use Rattle.search.specs.FoundLaws.{with_found}
@@ -26,18 +27,22 @@ join_ready {g} {t} {ask} {s} {c} {v} {r} h i b e =
     let split : Split g t ask s c v r (without c v) = record { ready = h; member = i; beside = b; others = refl } in
     with_ready split e
 
+-- what is left of the candidates is less than they are, as a number
+pub join_falls : {g : List ℕ} {ask : Request} {s c v r : ℕ} → In v c → Beside g ask s c v r → r < c
+join_falls {c = c} {v = v} {r = r} i b = omega (arith, sub_number r (without c v) b.kept.part, without_less c v i)
+
 -- what is left of the candidates is sifted; no vertex is silent here, so that all of it counts
 module _ {g t : List ℕ} {k q s c v d : ℕ} (h : Ready g t (request k q 0) s c)
     (left : (ask : Request) → ask.slack ≡ k → Near g ask t → Beside g ask s c v d) where
-  beside : Beside g (request k q 0) s c v d
-  beside = left (request k q 0) refl h.settled.near
+  pub join_beside : Beside g (request k q 0) s c v d
+  join_beside = left (request k q 0) refl h.settled.near
 
   pub join_siftable : In v c → Siftable g k q s c v d d
-  join_siftable i = ready_siftable h v i (omega (arith, h.settled.floor)) beside (sub_refl d)
+  join_siftable i = ready_siftable h v i (omega (arith, h.settled.floor)) join_beside (sub_refl d)
 
   pub join_sifted : {r : ℕ} → ((ask : Request) → ask.slack ≡ k → Counted ask q (with s v) d d → Beside g ask s c v d → Beside g ask s c v r)
       → Beside g (request k q 0) s c v r
-  join_sifted kept = kept (request k q 0) refl (counted_none k q (with s v) d) beside
+  join_sifted kept = kept (request k q 0) refl (counted_none k q (with s v) d) join_beside
 
 -- ---- the forced vertices join
 

@@ -12,3 +12,4 @@ pub mod ColourLaws
 pub mod SeekLaws
 pub mod ClimbLaws
 pub mod CallLaws
+pub mod Task

@@ -23,8 +23,8 @@ use Rattle.search.specs.FoundLaws.{compatible_part, empty_part, with_found, with
 use Rattle.search.specs.Trim.{Blocked, Cheap, Beside}
 use Rattle.search.specs.TrimLaws.{kept_near, trimmed_compatible}
 use Rattle.search.specs.CliqueLaws.{clique_adjacent, clique_near}
-use Rattle.largest.specs.Sought.{Sought, Seeking, Sweeping}
-use Rattle.largest.specs.SoughtLaws.{sought_some, sought_none, within_with}
+use Rattle.largest.specs.Sought.{Within, Seeking, Sweeping}
+use Rattle.largest.specs.SoughtLaws.{within_with}
 use Rattle.largest.specs.Colour.{Coloured}
 
 -- ---- fewer candidates
@@ -75,15 +75,15 @@ module _ {g : List ℕ} {ask : Request} {have s c : ℕ} (h : Seeking g ask have
       record { inside = record { some = h.sized.some; most = h.sized.most; below = h.fine.candidates }; valid = h.valid }
 
   -- s is large enough
-  pub seek_large : ask.floor ≤ have → Sought g ask s c s
+  pub seek_large : ask.floor ≤ have → Within g ask.slack ask.floor s c s
   seek_large l =
-      sought_some h.floor (record {
+      record {
         below = h.fine.below;
         plexed = rw h.slack h.fine.plexed;
         large = omega (arith, l, h.counted);
         lower = sub_refl s;
         upper = λ u. omega (arith, bit-bit_or s c u);
-      })
+      }
 
   -- a listed clique that holds v has no member outside row v, but v
   near : Near g ask g
@@ -175,8 +175,8 @@ module _ {g : List ℕ} {ask : Request} {have s b t b2 t2 : ℕ} (k : Swept g as
   whole : (u : ℕ) → bit (bit_or t b) u ≡ max (bit t2 u) (bit b2 u)
   whole u = rw (← k.same, bit-bit_or)
 
-  pub swept_all : {r : ℕ} → t2 ≡ 0 → r ≡ 0 → Sought g ask s (bit_or t b) r
-  swept_all z e = sought_none e (empty_part (bit_or t b) (λ u. omega (arith, whole u, none_out z u)) k.none)
+  pub swept_all : t2 ≡ 0 → Empty g ask s (bit_or t b)
+  swept_all z = empty_part (bit_or t b) (λ u. omega (arith, whole u, none_out z u)) k.none
 
   pub swept_vertex : {v : ℕ} → Lowest t2 v → v < length g
   swept_vertex {v} low = seek_vertex k.seeking v (omega (arith, whole v, low.member, bit_le b2 v))
@@ -195,25 +195,23 @@ module _ {g : List ℕ} {ask : Request} {have s b t b2 t2 : ℕ} (k : Swept g as
     pub swept_falls : d < bit_or t b
     swept_falls = rw m.beside (omega (arith, joined_falls tried v (with_same b2 v), sub_number (with b2 v) (bit_or t b) part))
 
-    module _ {r : ℕ} (w : Sought g ask j d r) where
-      -- a clique with v was found
-      pub swept_some : 0 < r → Sought g ask s (bit_or t b) r
-      swept_some l =
-          sought_some k.seeking.floor
-          (within_with (bit_or t b) v (in_of_sub (with b2 v) (bit_or t b) v part (with_same b2 v))
-          (λ u. omega (arith, ap (λ (x : ℕ). bit x u) m.beside, bit-bit_and (with b2 v) (row g v) u, part u))
-          (rw m.joined at (w.some l)))
+    -- a clique with v was found
+    pub swept_some : {r : ℕ} → Within g ask.slack ask.floor j d r → Within g ask.slack ask.floor s (bit_or t b) r
+    swept_some w =
+        within_with (bit_or t b) v (in_of_sub (with b2 v) (bit_or t b) v part (with_same b2 v))
+        (λ u. omega (arith, ap (λ (x : ℕ). bit x u) m.beside, bit-bit_and (with b2 v) (row g v) u, part u))
+        (rw m.joined at w)
 
-      -- there is none
-      pub swept_next : r ≡ 0 → Swept g ask have s b t b3 t3
-      swept_next z =
-          rw (m.waiting, m.left) (record {
-            seeking = k.seeking;
-            same =
-                ext (bit_or (without t2 v) (with b2 v)) (bit_or t b) (λ u.
-                let held = single_in t2 v u m.member in
-                omega (arith, bit-bit_or (without t2 v) (with b2 v) u, bit-minus t2 (2 ^ v) u, bit_with b2 v u, whole u, held, bit_le t2 u));
-            none =
-                joined_empty tried v (with_same b2 v) (rw (m.joined, m.beside) at (w.none z))
-                (empty_part (without (with b2 v) v) (λ u. omega (arith, bit-minus (with b2 v) (2 ^ v) u, bit_with b2 v u, bit_le (2 ^ v) u)) k.none);
-          })
+    -- there is none
+    pub swept_next : Empty g ask j d → Swept g ask have s b t b3 t3
+    swept_next none =
+        rw (m.waiting, m.left) (record {
+          seeking = k.seeking;
+          same =
+              ext (bit_or (without t2 v) (with b2 v)) (bit_or t b) (λ u.
+              let held = single_in t2 v u m.member in
+              omega (arith, bit-bit_or (without t2 v) (with b2 v) u, bit-minus t2 (2 ^ v) u, bit_with b2 v u, whole u, held, bit_le t2 u));
+          none =
+              joined_empty tried v (with_same b2 v) (rw (m.joined, m.beside) at none)
+              (empty_part (without (with b2 v) v) (λ u. omega (arith, bit-minus (with b2 v) (2 ^ v) u, bit_with b2 v u, bit_le (2 ^ v) u)) k.none);
+        })

@@ -1,11 +1,11 @@
 -- Laws of a search for one k-plex: where a branch is cut nothing is there, at a leaf all of it is one, and where the branch without a vertex gave nothing,
 -- the branch with it decides.
-use Rattle.std.specs.Prelude.{ℕ, ◌^◌, ◌≤◌, ◌<◌, ◌≡◌, List}
-use Rattle.std.proofs.Common.{arith, ap, pow_pos}
+use Rattle.std.specs.Prelude.{ℕ, ◌^◌, ◌≤◌, ◌<◌, ◌≡◌, List, Option, None, Some}
+use Rattle.std.proofs.Common.{arith}
 use Rattle.std.specs.Int.Bits.{bit_or}
-use Rattle.std.proofs.lemmas.Nat.{ones-le}
 use Rattle.sets.specs.Set.{bit, In, Sub, size, with, without, minus}
 use Rattle.sets.specs.Graph.{row}
+use Rattle.sets.specs.declared.Set.{Set}
 use Rattle.sets.specs.BitLaws.{bit-bit_or}
 use Rattle.sets.specs.PointLaws.{bit_with, single_in, by_bit}
 use Rattle.sets.specs.SubsetLaws.{sub_trans, sub_refl, sub_with, minus-sub}
@@ -20,14 +20,6 @@ use Rattle.search.specs.ReadyLaws.{whole_inside}
 use Rattle.largest.specs.Sought.{Within, Sought}
 
 -- ---- what is given back
-
-module _ {g : List ℕ} {ask : Request} {s c r : ℕ} where
-  -- at least one member: a plex is not taken for none
-  pub sought_some : 1 ≤ ask.floor → Within g ask.slack ask.floor s c r → Sought g ask s c r
-  sought_some l w = record { some = λ p. w; none = λ z. absurd (omega (arith, l, w.large, ap size z, ones-le 0 0 (pow_pos 0))) }
-
-  pub sought_none : r ≡ 0 → Empty g ask s c → Sought g ask s c r
-  sought_none z e = record { some = λ p. absurd (omega (arith, p, z)); none = λ _. e }
 
 -- what holds s and v, a candidate, holds s
 pub within_with : {g : List ℕ} {k q s d r : ℕ} (c v : ℕ) → In v c → Sub d c → Within g k q (with s v) d r → Within g k q s c r
@@ -54,42 +46,35 @@ within_part {s = s} {d = d} c p w =
 -- ---- s and c together
 
 module _ {g t : List ℕ} {ask : Request} {s c a : ℕ} (h : Whole g t ask s c a) where
-  pub sought_short : {r : ℕ} → Short g ask.slack ask.floor s a → r ≡ 0 → Sought g ask s c r
-  sought_short l z = sought_none z (short_empty h.whole l)
+  pub sought_short : Short g ask.slack ask.floor s a → Sought g ask s c None
+  sought_short l = short_empty h.whole l
 
-  pub sought_stuck : {r : ℕ} (w : ℕ) → In w a → ask.slack < missing g a w → (bit c w ≡ 0) × (minus c (row g w) ≡ 0) → r ≡ 0 → Sought g ask s c r
-  sought_stuck w i many o z = sought_none z (stuck_empty h.whole w i o.0 many o.1)
+  pub sought_stuck : (w : ℕ) → In w a → ask.slack < missing g a w → (bit c w ≡ 0) × (minus c (row g w) ≡ 0) → Sought g ask s c None
+  sought_stuck w i many o = stuck_empty h.whole w i o.0 many o.1
 
-  pub sought_leaf : Plex g ask.slack a → ask.floor ≤ size a → 1 ≤ ask.floor → Sought g ask s c a
-  sought_leaf p l some =
-      sought_some some (record {
+  pub sought_leaf : Plex g ask.slack a → ask.floor ≤ size a → Within g ask.slack ask.floor s c a
+  sought_leaf p l =
+      record {
         below = (whole_inside h).below;
         plexed = p;
         large = l;
         lower = λ u. rw h.whole (omega (arith, bit-bit_or s c u));
         upper = rw h.whole (sub_refl (bit_or s c));
-      })
+      }
 
 -- ---- with and without a vertex
 
-module _ {g : List ℕ} {ask : Request} {s c rest : ℕ} (v : ℕ) (e : rest ≡ without c v) where
-  pub without_ready : {t : List ℕ} → Ready g t ask s c → Ready g t ask s rest
+module _ {g : List ℕ} {s c rest : ℕ} (v : ℕ) (e : rest ≡ without c v) where
+  pub without_ready : {t : List ℕ} {ask : Request} → Ready g t ask s c → Ready g t ask s rest
   without_ready h = rw e (record { settled = h.settled; fine = compatible_part (without c v) (minus-sub c (2 ^ v)) h.fine })
 
-  module _ {o : ℕ} (w : Sought g ask s rest o) where
-    pub sought_without : 0 < o → Sought g ask s c o
-    sought_without l =
-        record {
-          some = λ _. within_part c (minus-sub c (2 ^ v)) (rw e at (w.some l));
-          none = λ z. absurd (omega (arith, z, l));
-        }
+  pub sought_without : {k q r : ℕ} → Within g k q s rest r → Within g k q s c r
+  sought_without w = within_part c (minus-sub c (2 ^ v)) (rw e at w)
 
-    pub sought_branches : {r j p : ℕ} → o ≡ 0 → In v c → Beside g ask s c v r → j ≡ with s v → Sought g ask j r p → Sought g ask s c p
-    sought_branches {r} {j} {p} z i b f y =
-        record {
-          some = λ l. within_with c v i (sub_trans r (without c v) c b.kept.part (minus-sub c (2 ^ v))) (rw f at (y.some l));
-          none = λ q x found.
-              let first : Empty g ask s (without c v) = rw e at (w.none z) in
-              let second : Empty g ask (with s v) r = rw f at (y.none q) in
-              by_bit x v (λ j. second x (with_found i b found j)) (λ n. first x (without_found v found n));
-        }
+  pub sought_branches : {ask : Request} {d j : ℕ} (r : Option Set) → Empty g ask s rest → In v c → Beside g ask s c v d → j ≡ with s v
+      → Sought g ask j d r → Sought g ask s c r
+  sought_branches {d} (Some x) none i b f y = within_with c v i (sub_trans d (without c v) c b.kept.part (minus-sub c (2 ^ v))) (rw f at y)
+  sought_branches {ask} {d} None none i b f y = λ x found.
+      let first : Empty g ask s (without c v) = rw e at none in
+      let second : Empty g ask (with s v) d = rw f at y in
+      by_bit x v (λ j. second x (with_found i b found j)) (λ n. first x (without_found v found n))

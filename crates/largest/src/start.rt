@@ -2,41 +2,13 @@
 ghost use Rattle.std.specs.Prelude.{◌<◌, length};
 ghost use Rattle.sets.specs.Set.{In};
 ghost use Rattle.sets.specs.Words.{mask, masks};
-ghost use Rattle.judging.specs.Request.{request};
 ghost use Rattle.search.specs.Choice.{Pickable};
-ghost use Rattle.search.specs.Ready.{Settled, Ready};
-ghost use Rattle.search.specs.Start.{Candidates};
-ghost use Rattle.largest.specs.Largest.{Holding};
-ghost use Rattle.largest.specs.Fit.{Forced, Fitted};
 
+use crate::task::Task;
 use sets::Set;
 
-// The candidates of `all` that are left once the vertices of f have joined, one after the other. None is left where one of these is no candidate any
-// more: nothing listed holds them all then.
-pub(crate) fn fit(rows: &[u64], near: &[u64], k: usize, q: usize, all: Set, f: Set) -> Set
-    requires { Settled (masks rows.now) (masks near.now) (request k q 0) × Candidates (masks rows.now) (request k q 0) (mask all)
-        × Forced (masks rows.now) k (mask f) }
-    ensures { Fitted (masks rows.now) (request k q 0) (mask f) (mask result) }
-{
-    // at slack 1 there is nothing to sift
-    let few = k - 1;
-    let mut s = sets::empty();
-    let mut c = all;
-    let mut left = f;
-    while !sets::is_empty(left) {
-        let v = sets::lowest(left);
-        if !sets::has(c, v) {
-            return sets::empty();
-        }
-        left = sets::rest(left, v);
-        let close = search::trim::beside(rows, near, k, s, c, v);
-        c = search::trim::sift(rows, k, q, few, s, c, v, close, close);
-        s = sets::with(s, v);
-    }
-    c
-}
-
-// What v misses of s and c. Where s is `heavy`, one of its members counts as three candidates.
+// What v misses of s and c. Where s is `heavy`, one of its members counts as three candidates. `heavy` is no closure: of one three contracts would have to ask
+// that it doesn't overflow.
 fn cost(rows: &[u64], heavy: bool, s: Set, c: Set, v: usize) -> usize
     requires { v < length (masks rows.now) }
 {
@@ -53,12 +25,12 @@ fn cheapest(rows: &[u64], heavy: bool, s: Set, c: Set) -> usize
     requires { Pickable (masks rows.now) (mask c) }
     ensures { In result (mask c) }
 {
-    let mut best = sets::lowest(c);
+    let mut best = c.lowest();
     let mut least = cost(rows, heavy, s, c, best);
     let mut left = c;
-    while !sets::is_empty(left) {
-        let v = sets::lowest(left);
-        left = sets::rest(left, v);
+    while !left.is_empty() {
+        let v = left.lowest();
+        left = left.rest(v);
         let m = cost(rows, heavy, s, c, v);
         if m < least {
             least = m;
@@ -68,37 +40,66 @@ fn cheapest(rows: &[u64], heavy: bool, s: Set, c: Set) -> usize
     best
 }
 
-// A k-plex that holds f: the candidate that costs least joins, until none is left.
-fn greedy(rows: &[u64], near: &[u64], k: usize, heavy: bool, f: Set, c: Set) -> Set
-    requires { Ready (masks rows.now) (masks near.now) (request k 0 0) (mask f) (mask c) }
-    ensures { Holding (masks rows.now) k (mask f) (mask result) }
-{
-    let mut s = f;
-    let mut left = c;
-    while !sets::is_empty(left) {
-        let v = cheapest(rows, heavy, s, left);
-        left = search::trim::beside(rows, near, k, s, left, v);
-        s = sets::with(s, v);
-    }
-    s
-}
+impl Task<'_> {
+    ghost use Rattle.search.specs.Found.{Compatible};
+    ghost use Rattle.largest.specs.Largest.{Holding};
+    ghost use Rattle.largest.specs.Fit.{Fitted};
+    ghost use Rattle.largest.specs.Task.{graph, ask};
 
-// The larger of two k-plexes, each grown by a cost of its own: the second is the better one on some dense graphs, and is not tried on others. At
-// slack 1 they are the same.
-pub(crate) fn first(rows: &[u64], near: &[u64], k: usize, f: Set, c: Set) -> Set
-    requires { Ready (masks rows.now) (masks near.now) (request k 0 0) (mask f) (mask c) }
-    ensures { Holding (masks rows.now) k (mask f) (mask result) }
-{
-    let a = greedy(rows, near, k, true, f, c);
-    if k == 1 {
-        return a;
+    // The candidates that are left once the forced vertices have joined, one after the other. None is left where one of these is no candidate any more:
+    // nothing listed holds them all then.
+    pub fn fit(&self) -> Set
+        ensures { Fitted (graph self.now) (ask self.now) (mask self.now.forced) (mask result) }
+    {
+        // at slack 1 there is nothing to sift
+        let few = self.k - 1;
+        let mut s = Set::empty();
+        let mut c = search::candidates(self.rows, self.k, self.q, true);
+        let mut left = self.forced;
+        while !left.is_empty() {
+            let v = left.lowest();
+            if !c.has(v) {
+                return Set::empty();
+            }
+            left = left.rest(v);
+            c = self.beside(few, s, c, v);
+            s = s.with(v);
+        }
+        c
     }
-    if 3 * sets::size(a) < sets::count(rows) {
-        return a;
+
+    // A k-plex that holds the forced vertices: the candidate that costs least joins, until none is left.
+    fn greedy(&self, heavy: bool, c: Set) -> Set
+        requires { Compatible (graph self.now) self.now.k (mask self.now.forced) (mask c) }
+        ensures { Holding (graph self.now) self.now.k (mask self.now.forced) (mask result) }
+    {
+        let mut s = self.forced;
+        let mut left = c;
+        while !left.is_empty() {
+            let v = cheapest(self.rows, heavy, s, left);
+            left = self.beside(0, s, left, v);
+            s = s.with(v);
+        }
+        s
     }
-    let b = greedy(rows, near, k, false, f, c);
-    if sets::size(a) < sets::size(b) {
-        return b;
+
+    // The larger of two such k-plexes, each grown by a cost of its own: the second is the better one on some dense graphs, and is not tried on others. At slack
+    // 1 they are the same.
+    pub fn first(&self) -> Set
+        ensures { Holding (graph self.now) self.now.k (mask self.now.forced) (mask result) }
+    {
+        let c = self.fit();
+        let a = self.greedy(true, c);
+        if self.k == 1 {
+            return a;
+        }
+        if 3 * a.size() < sets::count(self.rows) {
+            return a;
+        }
+        let b = self.greedy(false, c);
+        if a.size() < b.size() {
+            return b;
+        }
+        a
     }
-    a
 }

@@ -1,4 +1,5 @@
 -- What the proofs of placing and sorting share.
+pub mod LongLaws
 pub mod FindLaws
 pub mod PushLaws
 pub mod ShiftLaws

@@ -1,6 +1,6 @@
 -- Laws of the call that lists: from what the search added to what is collected, and from that and the outcome of the checks to what the call
 -- answers and leaves in the slots.
-use Rattle.std.specs.Prelude.{◌≡◌, ℕ, ◌^◌, ◌<◌, ◌≤◌, List, ◌++◌, length, take, drop, replicate}
+use Rattle.std.specs.Prelude.{◌≡◌, ℕ, ◌^◌, ◌<◌, ◌≤◌, List, ◌++◌, length, take, drop, replicate, Ok, Err}
 use Rattle.std.proofs.Common.{arith, ap, ◌∙◌, le-leb}
 use Rattle.std.proofs.Math.Path.{sym}
 use Rattle.std.proofs.lemmas.Bool.{lt-leb}
@@ -19,7 +19,6 @@ use Rattle.lists.specs.PlacingLaws.{adds_all}
 use Rattle.search.specs.Start.{Accepted}
 use Rattle.search.specs.Calls.{list_reply, placed, slots_after, Lists, Collects}
 use Rattle.search.specs.RoomLaws.{room_refused, room_fits, room_short}
-use Rattle.search.specs.declared.ListFound.TheVariants.{Listed, Refused}
 
 -- ---- slots that are given a list
 
@@ -45,7 +44,7 @@ module _ (g : List ℕ) (ask : Request) where
       }
 
   -- a request that is refused leaves the slots
-  pub list_refused : (f : Refusal) (slots : List ℕ) → first_cause (request_check g ask) passed ≡ refusal f → Lists g ask slots slots (Refused f)
+  pub list_refused : (f : Refusal) (slots : List ℕ) → first_cause (request_check g ask) passed ≡ refusal f → Lists g ask slots slots (Err f)
   unfolding list_reply slots_after
   list_refused f slots e =
       record {
@@ -78,7 +77,7 @@ module _ (g : List ℕ) (ask : Request) where
 
     module _ {before after : List ℕ} {m : ℕ} (x : Collects g ask before after m) where
       -- the slots that are given the list
-      pub list_fits : m ≤ length before → Lists g ask before after (Listed m)
+      pub list_fits : m ≤ length before → Lists g ask before after (Ok m)
       list_fits l =
           record {
             reply = ap (λ (n : ℕ). answered n tt) x.counted ∙ sym (reply_fits (length before) (omega (arith, x.counted)));
@@ -86,7 +85,7 @@ module _ (g : List ℕ) (ask : Request) where
           }
 
       -- there are more plexes than slots: these are cleared
-      pub list_short : {exit : List ℕ} → length before < m → exit ≡ replicate (length before) 0 → Lists g ask before exit (Refused (Slots m))
+      pub list_short : {exit : List ℕ} → length before < m → exit ≡ replicate (length before) 0 → Lists g ask before exit (Err (Slots m))
       list_short l z =
           record {
             reply = ap (refused 6) x.counted ∙ sym (reply_short (length before) (omega (arith, x.counted)));

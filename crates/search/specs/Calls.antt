@@ -7,13 +7,12 @@
 --   slots_after g ask slots   the slots at exit: as they were where the request is refused, else given the list
 --   Lists                    both, as the call's promise
 --   Collects                 the promise of the function below it: m, and where the list fits, the slots given it
-use Rattle.std.specs.Prelude.{◌≡◌, ℕ, ◌≤◌, cond, List, [], ◌∷◌, ◌++◌, length, drop, replicate, nat_le, nat_lt}
+use Rattle.std.specs.Prelude.{◌≡◌, ℕ, ◌≤◌, cond, List, [], ◌∷◌, ◌++◌, length, drop, replicate, nat_le, nat_lt, Result}
 use Rattle.judging.specs.Request.{Request}
 use Rattle.judging.specs.Refusal.{Reply, refused, answered, Cause, cause, first_cause}
-use Rattle.judging.specs.Calls.{refusal, passed, request_check}
+use Rattle.judging.specs.Calls.{valued_reply, passed, request_check}
+use Rattle.judging.specs.declared.Refusal.{Refusal}
 use Rattle.lists.specs.Listing.{listing}
-use Rattle.search.specs.declared.ListFound.{ListFound}
-use Rattle.search.specs.declared.ListFound.TheVariants.{Listed, Refused}
 
 unfoldable pub slots_cause : ℕ → ℕ → Cause
 slots_cause room m = cause (nat_lt room m) 6 m
@@ -35,12 +34,8 @@ after_check (answered v u) l slots = placed l slots
 unfoldable pub slots_after : List ℕ → Request → List ℕ → List ℕ
 slots_after g ask slots = after_check (first_cause (request_check g ask) passed) (listing g ask) slots
 
-abbrev pub list_found_reply : ListFound → Reply (Unit {0})
-list_found_reply (Listed m) = answered m tt
-list_found_reply (Refused f) = refusal f
-
-pub record Lists (g : List ℕ) (ask : Request) (before after : List ℕ) (r : ListFound) : Type 0 where
-  pub reply : list_found_reply r ≡ list_reply g ask (length before)
+pub record Lists (g : List ℕ) (ask : Request) (before after : List ℕ) (r : Result ℕ Refusal) : Type 0 where
+  pub reply : valued_reply r ≡ list_reply g ask (length before)
   pub slots : after ≡ slots_after g ask before
 
 -- what slots that are too few then hold is left open

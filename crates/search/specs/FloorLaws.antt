@@ -18,10 +18,9 @@ use Rattle.lists.specs.PlacingLaws.{adds_none, adds_same}
 use Rattle.search.specs.Found.{found, Found, AddsFound}
 use Rattle.search.specs.FoundLaws.{found_holds, found_test, cut_none}
 use Rattle.search.specs.RecordedLaws.{recorded_with, recorded_or, recorded_single, recorded_mono}
-use Rattle.search.specs.Cliques.{Taking, Sweeping, needing, Enough}
+use Rattle.search.specs.Cliques.{Taking, needing, Enough}
 use Rattle.search.specs.CliqueLaws.{common_out, cover_all}
 use Rattle.search.specs.TakeLaws.{Joined, take_pickable, take_near, cover_hits}
-use Rattle.search.specs.SweepLaws.{sweep_near, Step}
 use Rattle.search.specs.EndLaws.{pair_near, both_taking, both_adds}
 
 -- ---- where what is found for each of two requests meets the floor of the other, both find the same
@@ -71,69 +70,55 @@ module _ {g : List ℕ} {s c m : ℕ} (h : Taking g s c m) (q z : ℕ) (many : q
       → AddsFound g (request 1 q z) s c before count after o
   enough_adds x = floor_adds (request 1 0 0) (request 1 q z) refl enough_large (λ y f. omega arith) x
 
+-- ---- too few with all candidates
+
+module _ (g : List ℕ) (q z s c : ℕ) where
+  few_none : size (minus s z) + size (minus c z) < q → (slots : List ℕ) (count : ℕ) → AddsFound g (request 1 q z) s c slots count slots count
+  few_none l slots count =
+      adds_none (2 ^ length g) (found g (request 1 q z) s c) slots count (cut_none g (request 1 q z) s c (λ x f.
+      omega (arith, l, f.listed.large, recorded_or (request 1 q z) s c x f.upper)))
+
 -- ---- n members that are not silent are needed beside s
 
 module _ {g : List ℕ} {s c m : ℕ} (h : Taking g s c m) (z n : ℕ) where
   -- the candidates are too few
   pub need_few : size (minus c z) < n → (slots : List ℕ) (count : ℕ) → AddsFound g (needing z n s) s c slots count slots count
-  need_few l slots count =
-      adds_none (2 ^ length g) (found g (needing z n s) s c) slots count (cut_none g (needing z n s) s c (λ x f.
-      omega (arith, l, f.listed.large, recorded_or (needing z n s) s c x f.upper)))
+  need_few l = few_none g (n + size (minus s z)) z s c (omega (arith, l))
 
   -- any of them is enough
   pub need_enough : n ≤ size (minus c z) → Enough z n c → {before after : List ℕ} {count o : ℕ} → AddsFound g (request 1 0 0) s c before count after o
       → AddsFound g (needing z n s) s c before count after o
   need_enough l e x = enough_adds h (n + size (minus s z)) z (omega (arith, l)) (λ v i. omega (arith, e v i)) x
 
--- the vertex v alone, where p is 1 if it is silent
-module _ {g : List ℕ} {s m p : ℕ} (v : ℕ) (h : Taking g s (2 ^ v) m) (z n : ℕ) (e : p ≡ bit z v) where
-  pub one_few : 1 - p < n → (slots : List ℕ) (count : ℕ) → AddsFound g (needing z n s) s (2 ^ v) slots count slots count
-  one_few l = need_few h z n (omega (arith, l, e, recorded_single z v))
+-- ---- the vertex v alone, or u and v, for the floor q
 
-  pub one_enough : n ≤ 1 - p → {before after : List ℕ} {count o : ℕ} → AddsFound g (request 1 0 0) s (2 ^ v) before count after o
-      → AddsFound g (needing z n s) s (2 ^ v) before count after o
+module _ {g : List ℕ} {s m : ℕ} (v : ℕ) (h : Taking g s (2 ^ v) m) (q z : ℕ) where
+  pub one_few : size (minus s z) + (1 - bit z v) < q → (slots : List ℕ) (count : ℕ) → AddsFound g (request 1 q z) s (2 ^ v) slots count slots count
+  one_few l = few_none g q z s (2 ^ v) (omega (arith, l, recorded_single z v))
+
+  pub one_enough : q ≤ size (minus s z) + (1 - bit z v) → {before after : List ℕ} {count o : ℕ} → AddsFound g (request 1 0 0) s (2 ^ v) before count after o
+      → AddsFound g (request 1 q z) s (2 ^ v) before count after o
   one_enough l =
-      need_enough h z n (omega (arith, l, e, recorded_single z v)) (λ w i.
-      subst (λ (y : ℕ). n + bit z y ≤ 1) (in_single v w i) (omega (arith, l, e, bit_le z v)))
+      enough_adds h q z (omega (arith, l, recorded_single z v)) (λ w i.
+      subst (λ (y : ℕ). q + bit z y ≤ size (minus s z) + 1) (in_single v w i) (omega (arith, l, bit_le z v)))
 
 -- of u and v, which are adjacent, both are taken
-module _ {g : List ℕ} {s m u v j w : ℕ} (apart : u ≢ v) (h : Taking g s (with (2 ^ u) v) m) (near : In v (row g u)) (d : Joined g s m u j w) (z n : ℕ)
-    (l : n ≤ size (minus (with (2 ^ u) v) z)) where
-  both_had : n + size (minus s z) ≤ size (minus j z) + (1 - bit z v)
+module _ {g : List ℕ} {s m u v j w : ℕ} (apart : u ≢ v) (h : Taking g s (with (2 ^ u) v) m) (near : In v (row g u)) (d : Joined g s m u j w) (q z : ℕ)
+    (l : q ≤ size (minus s z) + size (minus (with (2 ^ u) v) z)) where
+  both_had : q ≤ size (minus j z) + (1 - bit z v)
   both_had =
       omega (
         arith,
         l,
         ap (λ (a : ℕ). size (minus a z)) d.clique,
-        recorded_with (needing z n s) s u (common_out h.valid h.common u (pair_near apart h)),
-        recorded_with (needing z n s) (2 ^ u) v (bit-pow_other u v apart),
+        recorded_with (request 1 q z) s u (common_out h.valid h.common u (pair_near apart h)),
+        recorded_with (request 1 q z) (2 ^ u) v (bit-pow_other u v apart),
         recorded_single z u,
       )
 
   pub both_enough : {before after : List ℕ} {count o : ℕ} → AddsFound g (request 1 0 0) j (2 ^ v) before count after o
-      → AddsFound g (needing z n s) s (with (2 ^ u) v) before count after o
-  both_enough x =
-      both_adds apart h near d (needing z n s) refl (enough_adds (both_taking apart h near d) (n + size (minus s z)) z
-      (omega (arith, both_had, recorded_single z v)) (λ y i.
-      subst (λ (a : ℕ). n + size (minus s z) + bit z a ≤ size (minus j z) + 1) (in_single v y i) (omega (arith, both_had, bit_le z v))) x)
-
--- a vertex v joins in a sweep, and k are needed then
-pub step_adds : {g : List ℕ} {s b m t v j r w b2 t2 k p : ℕ} → Sweeping g s b m t → Step g s b m t v j r w b2 t2 → (z n : ℕ) → 1 ≤ n → p ≡ bit z v
-    → k ≡ n - 1 + p → {before after : List ℕ} {count o : ℕ} → AddsFound g (needing z k j) j r before count after o
-    → AddsFound g (needing z n s) j r before count after o
-step_adds {s = s} {v = v} {j = j} {k = k} h d z n l ep ek x = rw same at x
-  where
-    same : k + size (minus j z) ≡ n + size (minus s z)
-    same =
-        omega (
-          arith,
-          l,
-          ep,
-          ek,
-          bit_le z v,
-          ap (λ (a : ℕ). size (minus a z)) d.joined.clique,
-          recorded_with (needing z n s) s v (common_out h.taking.valid h.taking.common v (sweep_near h v d.member)),
-        )
+      → AddsFound g (request 1 q z) s (with (2 ^ u) v) before count after o
+  both_enough x = both_adds apart h near d (request 1 q z) refl (one_enough v (both_taking apart h near d) q z both_had x)
 
 -- at the start
 pub start_lacking : {g : List ℕ} {s c m n : ℕ} → Taking g s c m → (q z : ℕ) → n ≡ q - size (minus s z) → {before after : List ℕ} {count o : ℕ}
@@ -144,13 +129,17 @@ start_lacking {s = s} {n = n} h q z e x =
 
 -- ---- at least two candidates
 
-module _ (c z n : ℕ) (left : n ≤ size (minus c z)) (wanting : 2 ≤ n + size (bit_and c z)) where
-  two_candidates : 2 ≤ size c
-  two_candidates = omega (arith, left, wanting, size-minus c z)
+pub two_candidates : (c z n : ℕ) → n ≤ size (minus c z) → 2 ≤ n + size (bit_and c z) → 2 ≤ size c
+two_candidates c z n left wanting = omega (arith, left, wanting, size-minus c z)
 
+module _ {c : ℕ} (two : 2 ≤ size c) where
   pub some_candidate : 0 < c
-  some_candidate = positive_of c (λ e. omega (arith, two_candidates, ap size e, ones-le 0 0 (pow_pos 0)))
+  some_candidate = positive_of c (λ e. omega (arith, two, ap size e, ones-le 0 0 (pow_pos 0)))
 
   pub second_candidate : {u d : ℕ} → Lowest c u → d ≡ without c u → 0 < d
   second_candidate {u} {d} i e =
-      positive_of d (λ y. omega (arith, two_candidates, size_without c u i.member, ap size (sym e ∙ y), ones-le 0 0 (pow_pos 0)))
+      positive_of d (λ y. omega (arith, two, size_without c u i.member, ap size (sym e ∙ y), ones-le 0 0 (pow_pos 0)))
+
+-- a second one is left
+pub two_more : {c u d : ℕ} → Lowest c u → d ≡ without c u → 0 < d → 2 ≤ size c
+two_more {c} {u} {d} i e l = omega (arith, size_without c u i.member, ap size e, positive_size d l)

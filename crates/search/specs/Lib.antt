@@ -14,6 +14,7 @@ pub mod Sift
 pub mod SiftLaws
 pub mod Ready
 pub mod ReadyLaws
+pub mod Filling
 pub mod Calls
 pub mod RoomLaws
 pub mod Cliques

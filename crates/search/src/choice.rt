@@ -10,10 +10,10 @@ pub fn among(rows: &[u64], c: Set, w: usize) -> Set
     requires { Choosable (masks rows.now) w }
     ensures { Among (masks rows.now) (mask c) w (mask result) }
 {
-    if sets::has(c, w) {
-        return sets::single(w);
+    if c.has(w) {
+        return Set::single(w);
     }
-    sets::minus(c, sets::get(rows, w))
+    c.minus(sets::get(rows, w))
 }
 
 // The member of s that misses most of a, the lowest on a tie.
@@ -22,11 +22,11 @@ fn farthest(rows: &[u64], a: Set, s: Set) -> usize
     ensures { In result (mask s) }
 {
     let mut most = 0;
-    let mut best = sets::lowest(s);
+    let mut best = s.lowest();
     let mut left = s;
-    while !sets::is_empty(left) {
-        let v = sets::lowest(left);
-        left = sets::rest(left, v);
+    while !left.is_empty() {
+        let v = left.lowest();
+        left = left.rest(v);
         let m = judging::plex::missing(rows, a, v);
         if most < m {
             most = m;
@@ -41,8 +41,8 @@ pub fn pick(rows: &[u64], a: Set, s: Set) -> usize
     requires { Pickable (masks rows.now) (mask s) }
     ensures { In result (mask s) }
 {
-    let first = sets::lowest(s);
-    if sets::is_empty(sets::rest(s, first)) {
+    let first = s.lowest();
+    if s.rest(first).is_empty() {
         return first;
     }
     farthest(rows, a, s)

@@ -6,7 +6,7 @@ ghost use Rattle.sets.specs.Words.{mask, masks};
 ghost use Rattle.judging.specs.Request.{request, asked};
 ghost use Rattle.lists.specs.Listing.{listed};
 ghost use Rattle.lists.specs.Placing.{Adds};
-ghost use Rattle.search.specs.Found.{AddsFound};
+ghost use Rattle.search.specs.Filling.{FillsFound};
 ghost use Rattle.search.specs.Start.{attached, Searchable, Accepted, Candidates, Startable};
 ghost use Rattle.search.specs.Calls.{Collects, Lists};
 
@@ -14,22 +14,22 @@ mod branch;
 pub mod choice;
 mod cliques;
 pub mod cut;
+mod floor;
 mod free;
 pub mod near;
 mod partition;
+mod slots;
 pub mod trim;
+mod wanted;
 
-use judging::{Checked, Refusal, Request};
+use branch::Search;
+use floor::Floor;
+use judging::{Refusal, Request};
 use sets::Set;
+use slots::Slots;
 
-// The answer of the call that lists: m, or why it declines.
-#[derive(Clone, Copy)]
-pub enum ListFound {
-    Listed(usize),
-    Refused(Refusal),
-}
-
-// The cuts, each with its switch. Every setting gives the same list.
+// The cuts, each with its switch. Every setting gives the same list. A switch is a value, which C hands over as a bit, and a cut tests it: as a step that the
+// caller passes it would need a clause of its own.
 #[derive(Clone, Copy)]
 pub struct Cuts {
     pub core: bool,
@@ -41,6 +41,9 @@ pub struct Cuts {
     pub pivot: bool,
 }
 
+// For how many vertices taken the candidates are sifted by pairs.
+const SIFTED: usize = 3;
+
 // The vertices to start from where none is silent: the core, or all. At floor k the core is all.
 pub fn candidates(rows: &[u64], k: usize, q: usize, core: bool) -> Set
     requires { Searchable (masks rows.now) (request k q 0) }
@@ -51,7 +54,7 @@ pub fn candidates(rows: &[u64], k: usize, q: usize, core: bool) -> Set
             return bounds::cores::core(rows, q - k);
         }
     }
-    sets::full(sets::count(rows))
+    Set::full(sets::count(rows))
 }
 
 // The members of `silent` that are adjacent to more than m members of s.
@@ -61,11 +64,11 @@ fn attached(rows: &[u64], m: usize, silent: Set, s: Set) -> Set
 {
     let mut left = silent;
     let mut kept = silent;
-    while !sets::is_empty(left) {
-        let v = sets::lowest(left);
-        left = sets::rest(left, v);
-        let near = sets::size(sets::meet(s, sets::get(rows, v)));
-        kept = sets::without_if(kept, v, near <= m);
+    while !left.is_empty() {
+        let v = left.lowest();
+        left = left.rest(v);
+        let near = s.meet(sets::get(rows, v)).size();
+        kept = kept.without_if(v, near <= m);
     }
     kept
 }
@@ -75,9 +78,9 @@ fn core_beside(rows: &[u64], k: usize, q: usize, silent: Set) -> Set
     requires { Accepted (masks rows.now) (request k q (mask silent)) }
     ensures { Candidates (masks rows.now) (request k q (mask silent)) (mask result) }
 {
-    let others = sets::minus(sets::full(sets::count(rows)), silent);
+    let others = Set::full(sets::count(rows)).minus(silent);
     let core = bounds::cores::core_within(rows, q - k, others);
-    sets::join(core, attached(rows, q - k, silent, core))
+    core.join(attached(rows, q - k, silent, core))
 }
 
 // The vertices to start from for a request: every listed plex lies in them.
@@ -87,90 +90,73 @@ pub fn starting(rows: &[u64], request: Request, core: bool) -> Set
 {
     let silent = request.silent;
     if core {
-        if !sets::is_empty(silent) {
+        if !silent.is_empty() {
             return core_beside(rows, request.slack, request.floor, silent);
         }
         return candidates(rows, request.slack, request.floor, true);
     }
-    sets::full(sets::count(rows))
+    Set::full(sets::count(rows))
 }
 
-// For how many vertices taken the candidates are sifted by pairs.
-fn sifted(pairs: bool) -> usize {
-    if pairs {
-        return 3;
-    }
-    0
-}
-
-// Places every listed plex that holds s and has no member outside s and c, while the slots have room, and gives the new count. Every listed plex lies in `all`.
+// Places every listed plex that holds s and has no member outside s and c, while the slots have room, and counts them. Every listed plex lies in `all`.
 // The search starts from anywhere; it is the whole list from the empty set and `all`.
 fn enumerate_from(
     rows: &[u64],
-    k: usize,
-    q: usize,
-    silent: Set,
+    request: Request,
     cuts: Cuts,
     all: Set,
     s: Set,
     c: Set,
-    slots: &mut [u64],
-    count: usize,
-) -> usize
-    requires { Startable (masks rows.now) (request k q (mask silent)) (mask all) (mask s) (mask c) }
-    ensures { AddsFound (masks rows.now) (request k q (mask silent)) (mask s) (mask c)
-        (masks slots.old) count (masks slots.new) result }
+    slots: &mut Slots,
+)
+    requires { Startable (masks rows.now) (asked request) (mask all) (mask s) (mask c) }
+    ensures same { slots.new.lent.ghost_name ≡ slots.old.lent.ghost_name }
+    ensures fills { FillsFound (masks rows.now) (asked request) (mask s) (mask c) slots.old slots.new }
 {
-    if cuts.pivot {
-        if k == 1 {
-            let shared = cliques::common(rows, s);
-            return cliques::start(rows, q, silent, s, c, shared, slots, count);
-        }
+    let k = request.slack;
+    let q = request.floor;
+    let silent = request.silent;
+    if cuts.pivot && k == 1 {
+        let shared = cliques::common(rows, s);
+        let want = Floor::beside(q, silent, s);
+        return cliques::start(rows, want, s, c, shared, slots);
     }
     // at the lowest floor pair rows keep what the reach keeps
+    let pairs = cuts.pairs && 2 * k <= q;
     let mut near = [0u64; sets::TABLE];
     near::fill(
         rows,
         k,
         q,
         all,
-        sets::minus(all, silent),
+        all.minus(silent),
         cuts.reach,
-        cuts.pairs && 2 * k <= q,
+        pairs,
         &mut near,
     );
-    branch::branch(
+    let search = Search {
         rows,
-        &near,
+        near: &near,
         k,
-        q + sets::size(sets::meet(s, silent)),
         silent,
-        cuts.parted,
-        cuts.extension,
-        cuts.second,
-        sifted(cuts.pairs),
-        s,
-        c,
-        slots,
-        count,
-    )
+        cuts,
+    };
+    let few = if cuts.pairs { SIFTED } else { 0 };
+    search.branch(q + s.meet(silent).size(), few, s, c, slots)
 }
 
 // Places every maximal k-plex of at least q members that are not silent while the slots have room, and counts them all. Each of them lies in `all`.
-fn enumerate(
-    rows: &[u64],
-    k: usize,
-    q: usize,
-    silent: Set,
-    cuts: Cuts,
-    all: Set,
-    slots: &mut [u64],
-) -> usize
-    requires { Accepted (masks rows.now) (request k q (mask silent)) × Candidates (masks rows.now) (request k q (mask silent)) (mask all) }
-    ensures { Adds (2 ^ length (masks rows.now)) (listed (masks rows.now) (request k q (mask silent)))
+fn enumerate(rows: &[u64], request: Request, cuts: Cuts, all: Set, slots: &mut [u64]) -> usize
+    requires { Accepted (masks rows.now) (asked request) × Candidates (masks rows.now) (asked request) (mask all) }
+    ensures { Adds (2 ^ length (masks rows.now)) (listed (masks rows.now) (asked request))
         (masks slots.old) 0 (masks slots.new) result }
 {
-    enumerate_from(rows, k, q, silent, cuts, all, sets::empty(), all, slots, 0)
+    let mut filled = Slots {
+        lent: slots,
+        count: 0,
+    };
+    enumerate_from(rows, request, cuts, all, Set::empty(), all, &mut filled);
+    filled.count
 }
 
 // Puts every maximal k-plex of at least q members that are not silent in the first slots, in rising order, where there is room for all of them, and counts
@@ -179,8 +165,7 @@ pub fn collect(rows: &[u64], request: Request, cuts: Cuts, all: Set, slots: &mut
     requires { Accepted (masks rows.now) (asked request) × Candidates (masks rows.now) (asked request) (mask all) }
     ensures { Collects (masks rows.now) (asked request) (masks slots.old) (masks slots.new) result }
 {
-    let silent = request.silent;
-    let m = enumerate(rows, request.slack, request.floor, silent, cuts, all, slots);
+    let m = enumerate(rows, request, cuts, all, slots);
     let room = sets::count(slots);
     if room < m {
         return m;
@@ -190,21 +175,23 @@ pub fn collect(rows: &[u64], request: Request, cuts: Cuts, all: Set, slots: &mut
     m
 }
 
-// The list with the cuts that are switched on. The promise is that of `list`, whatever the setting.
-pub fn list_with(rows: &[u64], request: Request, cuts: Cuts, slots: &mut [u64]) -> ListFound
+// The list with the cuts that are switched on: m, or why the call declines. The promise is that of `list`, whatever the setting.
+pub fn list_with(
+    rows: &[u64],
+    request: Request,
+    cuts: Cuts,
+    slots: &mut [u64],
+) -> Result<usize, Refusal>
     ensures { Lists (masks rows.now) (asked request) (masks slots.old) (masks slots.new) result }
 {
-    let checked = judging::check::check_request(rows, request);
-    if let Checked::Failed(f) = checked {
-        return ListFound::Refused(f);
-    }
+    judging::check::check_request(rows, request)?;
     let all = starting(rows, request, cuts.core);
     let m = collect(rows, request, cuts, all, slots);
     if sets::count(slots) < m {
         lists::place::clear(slots);
-        return ListFound::Refused(Refusal::Slots(m));
+        return Err(Refusal::Slots(m));
     }
-    ListFound::Listed(m)
+    Ok(m)
 }
 
 // The cuts that serve the list best: all but the second bound (docs/PERFORMANCE.md).
@@ -226,7 +213,7 @@ pub fn usual() -> Cuts {
 // Refusals: 1, 2, 3, 7 where the silent set reaches n or above, 4, 5, which leave the slots, and 6 with the exact m where there are fewer slots than m,
 // which makes all slots 0.
 // Cost: exponential in the worst case; it grows with the list where the floor is low.
-pub fn list(rows: &[u64], request: Request, slots: &mut [u64]) -> ListFound
+pub fn list(rows: &[u64], request: Request, slots: &mut [u64]) -> Result<usize, Refusal>
     ensures { Lists (masks rows.now) (asked request) (masks slots.old) (masks slots.new) result }
 {
     list_with(rows, request, usual(), slots)

@@ -7,29 +7,41 @@ ghost use Rattle.search.specs.NearRows.{close, pair_row, reach_row, near_row, Pa
 
 use sets::Set;
 
-// Have u and v as many common neighbours in the core as two members of one k-plex of q or more members have there?
-fn is_close(rows: &[u64], k: usize, q: usize, core: Set, v: usize, u: usize) -> bool
-    requires { Pairable (masks rows.now) k q (mask core) × (v < length (masks rows.now)) × (u < length (masks rows.now)) }
-    ensures { result ≡ close (masks rows.now) k q (mask core) v u }
-{
-    let beside = sets::get(rows, v);
-    let shared = sets::size(sets::meet(core, sets::meet(beside, sets::get(rows, u))));
-    q + 2 <= shared + 2 * k + 2 * sets::indicator(beside, u)
+// How close two vertices are: as two members of one k-plex of q or more members of the core, or not as close?
+#[derive(Clone, Copy)]
+pub(crate) struct Closeness<'a> {
+    pub rows: &'a [u64],
+    pub k: usize,
+    pub q: usize,
+    pub core: Set,
+    pub ghost pairable: { Pairable (masks rows.now) k q (mask core) },
 }
 
-// The members of `from`, v aside, that are close to v.
-pub(crate) fn pair_row(rows: &[u64], k: usize, q: usize, core: Set, from: Set, v: usize) -> Set
-    requires { Pairable (masks rows.now) k q (mask core) × (mask from < 2 ^ length (masks rows.now)) × (v < length (masks rows.now)) }
-    ensures { mask result ≡ pair_row (masks rows.now) k q (mask core) (mask from) v }
-{
-    let mut left = sets::without(from, v);
-    let mut kept = left;
-    while !sets::is_empty(left) {
-        let u = sets::lowest(left);
-        left = sets::rest(left, u);
-        kept = sets::without_if(kept, u, !is_close(rows, k, q, core, v, u));
+impl Closeness<'_> {
+    // Have u and v as many common neighbours in the core as two members of one k-plex of q or more members have there?
+    fn is_close(&self, v: usize, u: usize) -> bool
+        requires { (v < length (masks self.now.rows.now)) × (u < length (masks self.now.rows.now)) }
+        ensures { result ≡ close (masks self.now.rows.now) self.now.k self.now.q (mask self.now.core) v u }
+    {
+        let beside = sets::get(self.rows, v);
+        let shared = self.core.meet(beside.meet(sets::get(self.rows, u))).size();
+        self.q + 2 <= shared + 2 * self.k + 2 * beside.indicator(u)
     }
-    kept
+
+    // The members of `from`, v aside, that are close to v.
+    pub fn row(&self, from: Set, v: usize) -> Set
+        requires { (mask from < 2 ^ length (masks self.now.rows.now)) × (v < length (masks self.now.rows.now)) }
+        ensures { mask result ≡ pair_row (masks self.now.rows.now) self.now.k self.now.q (mask self.now.core) (mask from) v }
+    {
+        let mut left = from.without(v);
+        let mut kept = left;
+        while !left.is_empty() {
+            let u = left.lowest();
+            left = left.rest(u);
+            kept = kept.without_if(u, !self.is_close(v, u));
+        }
+        kept
+    }
 }
 
 // The two-hop reach of v, or all vertices where that is switched off.
@@ -40,27 +52,19 @@ fn reach_row(rows: &[u64], reach: bool, v: usize) -> Set
     if reach {
         return bounds::reach::reach(rows, v);
     }
-    sets::full(sets::count(rows))
+    Set::full(sets::count(rows))
 }
 
-// Row v of the table by the cuts that are switched on: of `all`, by pairs with common neighbours in `core`. Pairs are counted within the reach alone, which on
-// a sparse graph is small.
-fn near_row(
-    rows: &[u64],
-    k: usize,
-    q: usize,
-    all: Set,
-    core: Set,
-    reach: bool,
-    pairs: bool,
-    v: usize,
-) -> Set
-    requires { Pairing (masks rows.now) k q (mask all) (mask core) × (v < length (masks rows.now)) }
-    ensures { mask result ≡ near_row (masks rows.now) k q (mask all) (mask core) reach pairs v }
+// Row v of the table by the cuts that are switched on: of `all`, by pairs with common neighbours in the core. Pairs are counted within the reach alone, which
+// on a sparse graph is small.
+fn near_row(closeness: &Closeness, all: Set, reach: bool, pairs: bool, v: usize) -> Set
+    requires { Pairing (masks closeness.now.rows.now) closeness.now.k closeness.now.q (mask all) (mask closeness.now.core)
+        × (v < length (masks closeness.now.rows.now)) }
+    ensures { mask result ≡ near_row (masks closeness.now.rows.now) closeness.now.k closeness.now.q (mask all) (mask closeness.now.core) reach pairs v }
 {
-    let within = reach_row(rows, reach, v);
+    let within = reach_row(closeness.rows, reach, v);
     if pairs {
-        return pair_row(rows, k, q, core, sets::meet(all, within), v);
+        return closeness.row(all.meet(within), v);
     }
     within
 }
@@ -80,10 +84,8 @@ pub fn fill(
     ensures { (z : ℕ) → Pairs (masks rows.now) (request k q z) (mask all) (mask core)
         → Filled (masks rows.now) (request k q z) (masks near.old) (masks near.new) }
 {
-    let n = sets::count(rows);
-    let mut v = 0;
-    while v < n {
-        sets::put(near, v, near_row(rows, k, q, all, core, reach, pairs, v));
-        v += 1;
+    let closeness = Closeness { rows, k, q, core };
+    for v in 0..sets::count(rows) {
+        sets::put(near, v, near_row(&closeness, all, reach, pairs, v));
     }
 }

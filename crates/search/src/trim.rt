@@ -7,6 +7,7 @@ ghost use Rattle.search.specs.Found.{Near};
 ghost use Rattle.std.specs.Prelude.{◌≡◌, ◌-◌};
 ghost use Rattle.sets.specs.Set.{with};
 
+use crate::near::Closeness;
 use sets::Set;
 
 // Drops what a member of s that misses k or more of s is not adjacent to. Only the members that v is not adjacent to can have come to that.
@@ -15,12 +16,12 @@ fn drop_blocked(rows: &[u64], k: usize, s: Set, c: Set, v: usize) -> Set
     ensures { DropsBlocked (masks rows.now) k (mask s) v (mask c) (mask result) }
 {
     let mut kept = c;
-    let mut left = sets::minus(s, sets::get(rows, v));
-    while !sets::is_empty(left) {
-        let u = sets::lowest(left);
-        left = sets::rest(left, u);
+    let mut left = s.minus(sets::get(rows, v));
+    while !left.is_empty() {
+        let u = left.lowest();
+        left = left.rest(u);
         if k <= judging::plex::missing(rows, s, u) {
-            kept = sets::meet(kept, sets::get(rows, u));
+            kept = kept.meet(sets::get(rows, u));
         }
     }
     kept
@@ -32,12 +33,12 @@ fn drop_missing(rows: &[u64], k: usize, s: Set, c: Set, v: usize) -> Set
     ensures { DropsMissing (masks rows.now) k (mask s) v (mask c) (mask result) }
 {
     let mut kept = c;
-    let mut left = sets::minus(c, sets::get(rows, v));
-    while !sets::is_empty(left) {
-        let w = sets::lowest(left);
-        left = sets::rest(left, w);
+    let mut left = c.minus(sets::get(rows, v));
+    while !left.is_empty() {
+        let w = left.lowest();
+        left = left.rest(w);
         let m = judging::plex::missing(rows, s, w);
-        kept = sets::without_if(kept, w, k <= m);
+        kept = kept.without_if(w, k <= m);
     }
     kept
 }
@@ -48,8 +49,8 @@ pub fn beside(rows: &[u64], near: &[u64], k: usize, s: Set, c: Set, v: usize) ->
     ensures { (ask : Request) → ask.slack ≡ k → Near (masks rows.now) ask (masks near.now)
         → Beside (masks rows.now) ask (mask s) (mask c) v (mask result) }
 {
-    let joined = sets::with(s, v);
-    let close = sets::meet(sets::without(c, v), sets::get(near, v));
+    let joined = s.with(v);
+    let close = c.without(v).meet(sets::get(near, v));
     drop_missing(rows, k, joined, drop_blocked(rows, k, joined, close, v), v)
 }
 
@@ -74,16 +75,14 @@ pub fn sift(
     if few == 0 {
         return close;
     }
-    let all = sets::join(sets::with(s, v), counted);
-    crate::near::pair_row(rows, k, q, all, close, v)
+    let core = s.with(v).join(counted);
+    let closeness = Closeness { rows, k, q, core };
+    closeness.row(close, v)
 }
 
 // For how many vertices candidates are sifted once one more is taken.
 pub fn fewer(few: usize) -> usize
     ensures { result ≡ few - 1 }
 {
-    if few == 0 {
-        return 0;
-    }
-    few - 1
+    few.saturating_sub(1)
 }

@@ -1,6 +1,6 @@
 -- Laws of sheets that are read: each is written back byte by byte.
 use Prim.Native.Nat.{ℕ, ◌+◌, ◌≤◌}
-use Rattle.std.proofs.Common.{arith, add-one, sym, ◌∙◌, length-drop, drop_of_length-le, take-add, drop-drop, length-take-le}
+use Rattle.std.proofs.Common.{arith, add-one, sym, ◌∙◌, length-drop, drop_of_length-le, length-take-le}
 use Rattle.std.proofs.Math.Path.{◌≡◌, ap, ap₂}
 use Rattle.std.specs.Prelude.{T, length, take, drop}
 use Rattle.std.proofs.Math.Bool.{true, false}
@@ -17,6 +17,7 @@ use Rattle.sheets.specs.Sheet.{lines_cause}
 use Rattle.sheets.specs.Sheet.{reading}
 use Rattle.sheets.specs.LineLaws.{right_digits, right_fits, numbers-length}
 use Rattle.sheets.specs.SheetLaws.{lines_clear, passed_line, passed_lines, passed_heading, passed_body, read_passed, read_answer}
+use Rattle.sheets.specs.HeadingLaws.{three_fields}
 use Rattle.sheets.specs.Examples.{ring, ring_rows, examples_read}
 use Rattle.sheets.proofs.NumberLaws.{digits_number}
 use Rattle.sheets.proofs.RightLaws.{right_line, right_lines_lem}
@@ -30,16 +31,12 @@ field_back at w t l d =
     ap (λ (n : ℕ). digits n (number (take w (drop at t)))) (sym (length-take-le w (drop at t) (omega (arith, length-drop at t))))
     ∙ digits_number (take w (drop at t)) d
 
--- the six digits of line 1 are three fields
-three : (t : List ℕ) → take 6 t ≡ take 2 (drop 0 t) ++ (take 2 (drop 2 t) ++ take 2 (drop 4 t))
-three t =
-    take-add 2 4 t ∙ ap (λ (l : List ℕ). take 2 t ++ l) (take-add 2 2 (drop 2 t) ∙ ap (λ (l : List ℕ). take 2 (drop 2 t) ++ take 2 l) (drop-drop 2 2 t))
-
 heading_back : (t : List ℕ) → is_line heading_digits t ≡ true → t ≡ heading_text (vertex_field t) (request_in t) ++ body t
 unfolding heading_text
 heading_back t e =
     right_line 6 t r
-    ∙ ap (λ (l : List ℕ). line l ++ drop 7 t) (three t ∙ sym (ap₂ ◌++◌ (back 0 (omega arith)) (ap₂ ◌++◌ (back 2 (omega arith)) (back 4 (omega arith)))))
+    ∙ ap (λ (l : List ℕ). line l ++ drop 7 t)
+    (three_fields t ∙ sym (ap₂ ◌++◌ (back 0 (omega arith)) (ap₂ ◌++◌ (back 2 (omega arith)) (back 4 (omega arith)))))
   where
     r : T (is_line heading_digits t)
     r = true_holds (is_line heading_digits t) e

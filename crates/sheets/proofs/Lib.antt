@@ -1,7 +1,7 @@
 -- Laws that rest on those of specs/.
 pub mod NumberLaws
 pub mod RightLaws
-pub mod FieldLaws
+pub mod JudgedLaws
 pub mod BackLaws
 pub mod WrittenLaws
 pub mod OutcomeLaws

@@ -1,20 +1,20 @@
 -- The lines below line 1 as the code judges them and stores their rows, and the definitions of them.
-use Rattle.std.specs.Prelude.{ℕ, ◌+◌, ◌*◌, ◌≤◌, ◌<◌, ◌≡◌, List, ◌∷◌, ◌++◌, length, take}
+use Rattle.std.specs.Prelude.{ℕ, ◌+◌, ◌-◌, ◌*◌, ◌≤◌, ◌<◌, ◌≡◌, true, List, ◌∷◌, length, take, drop, Some}
+use borrow.Author.Rules.{part_to_end}
 use Rattle.std.proofs.Common.{arith, ap₂, ◌∙◌, subst, lt-ltb, le-ltb}
 use Rattle.std.proofs.Math.Path.{sym, ap}
 use Rattle.std.proofs.Math.Bool.{◌||◌}
 use Rattle.std.proofs.lemmas.List.{length-replicate}
 use Rattle.sets.specs.Words.{per_set, width, masks}
 use Rattle.sets.specs.Words.Groups.{blank}
-use Rattle.sets.specs.Words.Masks.{count_masks, lent_length, front_part, blank_masks}
+use Rattle.sets.specs.Words.Masks.{count_masks}
 use Rattle.judging.specs.Refusal.{Cause, refused, first_cause}
 use Rattle.judging.specs.Calls.{passed}
-use Rattle.judging.specs.Setting.{Sized}
 use Rattle.judging.specs.RefusalLaws.{first_holds, first_skips}
-use Rattle.sheets.specs.Lines.{right_lines}
+use Rattle.sheets.specs.Lines.{is_line, field, right_lines}
 use Rattle.sheets.specs.Sheet.{row_digits, row_length, lines_cause, body_causes}
-use Rattle.sheets.specs.Setting.{SetLine, BodyLines}
-use Rattle.sheets.specs.LineLaws.{right_most, each_right}
+use Rattle.sheets.specs.Setting.{ReadsLine}
+use Rattle.sheets.specs.LineLaws.{right_most}
 use Rattle.sheets.specs.SheetLaws.{lines_clear, clear_lines, wrong_line, passed_lines}
 
 -- a is how many of m lines the code found right
@@ -41,28 +41,13 @@ module _ (m : ℕ) (t : List ℕ) {a : ℕ} (e : a ≡ right_lines row_digits m 
 pub passed_right : (n : ℕ) (t : List ℕ) → first_cause (body_causes n t) passed ≡ passed → right_lines row_digits (n + 1) t ≡ n + 1
 passed_right n t e = (lines_clear (n + 1) t (passed_lines n t e)).0
 
--- ---- one line, as the code takes it
+-- ---- one line as the code takes it: what is read of the text from its first byte on
 
-pub body-line : {n : ℕ} {t : List ℕ} → BodyLines n t → (a : ℕ) → a ≤ n → SetLine a t
-body-line {n} {t} h a l = record { most = omega (arith, h.most); right = each_right row_digits (n + 1) a t h.right (omega arith) }
+pub set_read : (a : ℕ) (t : List ℕ) {x : ℕ} → ReadsLine row_digits (take (length t - a * row_length) (drop (a * row_length) t)) (Some x)
+    → (x ≡ field (a * row_length) row_digits t) × (is_line row_digits (drop (a * row_length) t) ≡ true)
+unfolding field
+set_read a t {x} h = subst (λ (u : List ℕ). ReadsLine row_digits u (Some x)) (part_to_end t (a * row_length)) h
 
--- ---- lent words
-
--- n sets at the front of longer words, which end at the word `end`
-pub taken_lines : (n : ℕ) {end : ℕ} → end ≡ n * per_set → (ws t : List ℕ) → n ≤ length (masks ws) → BodyLines n t
-    → BodyLines (length (masks (take end ws))) t
-taken_lines n {end} at ws t l h = subst (λ (m : ℕ). BodyLines m t) (sym (lent_length ws n end at l)) h
-
-module _ (xs ys : List ℕ) {end : ℕ} (e : length xs ≡ end) where
-  pub front_masks : {g : List ℕ} → masks xs ≡ g → masks (take end (xs ++ ys)) ≡ g
-  front_masks h = ap masks (front_part xs ys e) ∙ h
-
-  pub front_sized : (n : ℕ) → end ≡ n * per_set → 1 ≤ n → n ≤ width → Sized (masks (take end (xs ++ ys)))
-  front_sized n at l h =
-      let same = ap (λ (ws : List ℕ). length (masks ws)) (front_part xs ys e) in
-      let long : length (masks (take end (xs ++ ys))) ≡ n = same ∙ omega (arith, at, e, count_masks xs) in
-      record { some = omega arith; most = omega arith }
-
--- a blank table has a row for each vertex
-pub table_fits : (n : ℕ) → n ≤ width → n ≤ length (masks (blank (width * per_set)))
-table_fits n l = omega (arith, ap length (blank_masks width), length-replicate {A = ℕ} width 0)
+-- a table as long as a blank one has a row for each vertex
+pub table_rows : (ws : List ℕ) → length ws ≡ length (blank (width * per_set)) → length (masks ws) ≡ width
+table_rows ws e = omega (arith, e, count_masks ws, length-replicate {A = ℕ} (width * per_set) 0)

@@ -1,7 +1,10 @@
 -- Laws of digits: a digit and its byte are inverse, and so are a number and its digits, whatever the number of digits (NumberLaws of proofs/). The records at
 -- the end say what the loops over digits know at each turn.
-use Rattle.std.specs.Prelude.{ℕ, zero, suc, ◌+◌, ◌-◌, ◌*◌, ◌/◌, ◌%◌, ◌^◌, ◌≤◌, ◌<◌, ◌≡◌, refl, Bool, ◌&&◌, cond, List, [], ◌∷◌, ◌++◌, T, leb, length, get_or, set}
-use Rattle.std.proofs.Common.{lt_of_lt_of_le, le_refl, zero-lt-suc, mul_assoc, add-zero, add-suc, suc-add, arith, add-one, ◌∙◌, append_assoc, append-nil, ltb→lt, lt→ltb, le-leb, lt-ltb, le-ltb, pow-add, length-append, length-set, drop_of_length-le, drop-cons, get_or-set_same, drop-set-lt, lt-length-set}
+use Rattle.std.specs.Prelude.{ℕ, zero, suc, ◌+◌, ◌-◌, ◌*◌, ◌/◌, ◌%◌, ◌^◌, ◌≤◌, ◌<◌, ◌≡◌, refl, Bool, ◌&&◌, cond, List, [], ◌∷◌, ◌++◌, T, leb, length, get_or}
+use Rattle.std.specs.Prelude.{set}
+use Rattle.std.proofs.Common.{lt_of_lt_of_le, le_refl, zero-lt-suc, mul_assoc, add-zero, add-suc, suc-add, arith, add-one, ◌∙◌, append_assoc, append-nil}
+use Rattle.std.proofs.Common.{ltb→lt, lt→ltb, le-leb, lt-ltb, le-ltb, pow-add, length-append, length-set, drop_of_length-le, drop-cons, get_or-set_same}
+use Rattle.std.proofs.Common.{drop-set-lt, lt-length-set}
 use Rattle.std.proofs.Math.Nat.{pow-le-pow_right, pow-suc}
 use Rattle.std.proofs.Math.Decide.{dec_lt, dec_le}
 use Rattle.std.proofs.Math.Path.{sym, ap, ap₂, subst}
@@ -12,9 +15,8 @@ use Rattle.std.proofs.Math.ListN.{drop}
 use Rattle.std.proofs.Math.Seq.{drop-length}
 use Rattle.sets.specs.Words.{word_bits}
 use Rattle.sets.specs.Ranges.{all}
-use Rattle.sets.specs.RangeLaws.{and_left, and_right, both, all_append, all_at, all_next}
+use Rattle.sets.specs.RangeLaws.{and_left, and_right, both, all_append, all_next}
 use Rattle.sheets.specs.Digits.{no_digit, word_digits, between, digit_value, is_digit, digit_byte, digits, number_from, number}
-use Rattle.sheets.specs.Setting.{Readable}
 
 -- ---- one digit
 
@@ -179,20 +181,17 @@ pub numbering_all : {t : List ℕ} {i x : ℕ} → Numbering t i x → length t 
 unfolding number_from
 numbering_all {t} {i} {x} h l = sym (h.rest ∙ ap (number_from x) (drop_of_length-le t l))
 
-module _ {t : List ℕ} {i x : ℕ} (r : Readable t) (h : Numbering t i x) (l : i < length t) where
-  pub digit_low : digit_value (get_or t i 0) < no_digit
-  digit_low = digit_below (get_or t i 0) (all_at is_digit t i r.digit l)
-
+module _ {t : List ℕ} {i x : ℕ} (h : Numbering t i x) (l : i < length t) where
   -- a word has room for one digit more
-  pub numbering_fits : x < 16 ^ 15
-  numbering_fits = lt_of_lt_of_le h.low (pow-le-pow_right (zero-lt-suc 15) {i = i} {j = 15} (omega (arith, r.short)))
+  pub numbering_fits : length t ≤ word_digits → x < 16 ^ 15
+  numbering_fits short = lt_of_lt_of_le h.low (pow-le-pow_right (zero-lt-suc 15) {i = i} {j = 15} (omega arith))
 
-  pub numbering_more : {d : ℕ} → d ≡ digit_value (get_or t i 0) → Numbering t (i + 1) (x * 16 + d)
+  pub numbering_more : {d : ℕ} → d < no_digit → d ≡ digit_value (get_or t i 0) → Numbering t (i + 1) (x * 16 + d)
   unfolding number_from
-  numbering_more {d} e =
+  numbering_more {d} f e =
       record {
         upto = omega arith;
-        low = subst (λ (n : ℕ). x * 16 + d < 16 ^ n) (sym (add-one i)) (omega (arith, h.low, digit_low, pow-suc 16 i));
+        low = subst (λ (n : ℕ). x * 16 + d < 16 ^ n) (sym (add-one i)) (omega (arith, h.low, f, pow-suc 16 i));
         rest =
             h.rest ∙ ap (number_from x) (drop-cons t i 0 l)
             ∙ ap₂ (λ (y n : ℕ). number_from (x * 16 + y) (drop n t)) (sym e) (sym (add-one i));

@@ -1,5 +1,5 @@
 -- Isolated vertices: a valid graph has none exactly where every vertex has a neighbour, which takes two vertices or more; and 14 tells the lowest.
-use Rattle.std.specs.Prelude.{ℕ, ◌≤◌, ◌<◌, ◌≡◌, true, false, List, length}
+use Rattle.std.specs.Prelude.{ℕ, ◌≤◌, ◌<◌, ◌≡◌, Bool, true, false, List, [], ◌∷◌, eqb, length, Some, None}
 use Rattle.std.proofs.Common.{lt_of_not-le, arith, sym, ap, ◌∙◌}
 use borrow.Author.Tests.{eq-eqb, ne_eqb}
 use Rattle.sets.specs.Set.{bit}
@@ -9,9 +9,11 @@ use Rattle.sets.specs.PointLaws.{by_bit, none_by}
 use Rattle.sets.specs.SubsetLaws.{in_below, has_in, in_has, positive, positive_of}
 use Rattle.sets.specs.SizeLaws.{some_member, positive_size}
 use Rattle.judging.specs.Graph.{adjacent, Valid}
-use Rattle.judging.specs.Refusal.{lowest_row}
-use Rattle.judging.specs.RefusalLaws.{no_row}
-use Rattle.judging.specs.CallLaws.{lowest_holds, lowest_none}
+use Rattle.judging.specs.Refusal.{refused, first_cause, lowest_row}
+use Rattle.judging.specs.Calls.{passed}
+use Rattle.judging.specs.Setting.{FindsRow}
+use Rattle.judging.specs.RefusalLaws.{no_row, first_holds, first_skips}
+use Rattle.judging.specs.CallLaws.{no_row_found, lowest_holds, lowest_none}
 use Rattle.sheets.specs.Sheet.{isolated, Linked, isolated_cause}
 
 module _ (g : List ℕ) where
@@ -23,7 +25,7 @@ module _ (g : List ℕ) where
 
   pub isolated_holds : (a : ℕ) → a < length g → lowest_row (isolated g) (length g) ≡ a → (isolated_cause g).holds ≡ true
   unfolding isolated_cause
-  isolated_holds a l e = lowest_holds (isolated g) (length g) (sym e) l
+  isolated_holds a l e = lowest_holds (isolated g) (length g) (sym e, l)
 
   clear_row : (isolated_cause g).holds ≡ false → (a : ℕ) → a < length g → row g a ≡ 0 → ⊥
   unfolding isolated_cause isolated
@@ -32,8 +34,21 @@ module _ (g : List ℕ) where
   row_clear : ((a : ℕ) → a < length g → row g a ≡ 0 → ⊥) → (isolated_cause g).holds ≡ false
   unfolding isolated_cause lowest_row isolated
   row_clear f =
-      lowest_none (isolated g) (length g)
-      (sym (first_at (isolated g) (length g) (length g) (omega arith) (λ w h. ne_eqb (row g w) 0 (f w h)) (λ h. absurd (omega arith)))) (omega arith)
+      lowest_none (isolated g) (length g) (no_row_found (isolated g) (length g) (λ w h. ne_eqb (row g w) 0 (f w h)))
+
+  -- ---- as the code looks for it
+
+  pub row_looked : (a : ℕ) {m : ℕ} {b : Bool} → m ≡ row g a → b ≡ eqb m 0 → isolated g a ≡ b
+  unfolding isolated
+  row_looked a e h = sym (h ∙ ap (λ (m : ℕ). eqb m 0) e)
+
+  pub isolated_refused : {a : ℕ} → FindsRow (isolated g) (length g) (Some a) → refused 14 a ≡ first_cause (isolated_cause g ∷ []) passed
+  unfolding isolated_cause
+  isolated_refused h = ap (refused 14) h.0 ∙ sym (first_holds (isolated_cause g) [] passed (lowest_holds (isolated g) (length g) h))
+
+  pub isolated_accepted : FindsRow (isolated g) (length g) None → passed ≡ first_cause (isolated_cause g ∷ []) passed
+  unfolding isolated_cause first_cause
+  isolated_accepted h = sym (first_skips (isolated_cause g) [] passed (lowest_none (isolated g) (length g) h))
 
   -- ---- neighbours
 

@@ -2,10 +2,12 @@
 -- loops over lines know at each turn.
 use Prim.Native.Nat.{ℕ, zero, suc, ◌+◌, ◌-◌, ◌*◌, ◌≤◌, ◌<◌, suc-le-suc}
 use Rattle.std.proofs.Math.Nat.{sub-zero, add-zero, add-sub_cancel_left}
-use Rattle.std.proofs.Common.{add-suc, suc-add, le_of_eq, zero-add, le_refl, not-suc-le-zero, le_of_suc-le-suc, suc-mul, zero-mul, add_comm, le_of_lt, add-one, ◌∙◌, subst, eq-eqb, length-drop, drop_of_length-le, length-append, drop-cons, take_at, drop_at, length-take-le, drop-drop, take-suc, get_or-drop}
+use Rattle.std.proofs.Common.{add-suc, suc-add, le_of_eq, zero-add, le_refl, not-suc-le-zero, le_of_suc-le-suc, suc-mul, zero-mul, add_comm, le_of_lt}
+use Rattle.std.proofs.Common.{add-one, ◌∙◌, subst, length-drop, drop_of_length-le, length-append, drop-cons, take_at, drop_at, length-take-le, drop-drop}
+use Rattle.std.proofs.Common.{take-suc}
 use native.Mathlib.Omega.{arith}
 use Rattle.std.proofs.Math.Decide.{dec_lt}
-use Rattle.std.specs.Prelude.{◌≡◌, refl, Bool, true, false, ◌&&◌, take}
+use Rattle.std.specs.Prelude.{◌≡◌, refl, Bool, true, false, ◌&&◌, Option, Some, None, take}
 use Rattle.std.proofs.Math.Path.{sym, ap, ap₂}
 use Rattle.std.proofs.Math.Bool.{cond}
 use mathlib.Core.List.{List, [], ◌∷◌, ◌++◌, append_assoc, append-nil}
@@ -14,12 +16,12 @@ use borrow.Rule.Slice.PartMut.{same_len_mid}
 use Rattle.std.proofs.Math.ListN.{length, get_or, drop, set, get_or-eq_default}
 use Rattle.std.proofs.Math.Seq.{get_or_at, set_at, append_snoc, take-length}
 use Rattle.sets.specs.Ranges.{all}
-use Rattle.sets.specs.RangeLaws.{and_left, and_right, both, is_true, is_false, true_holds}
+use Rattle.sets.specs.RangeLaws.{and_left, and_right, both, is_true, true_holds}
 use Rattle.sheets.specs.Digits.{is_digit, digits, number}
 use Rattle.sheets.specs.DigitLaws.{digits-length, all_digits}
 use Rattle.sheets.specs.Lines.{newline, line, lines, is_line, field, right_lines, numbers}
 use Rattle.sheets.specs.Sheet.{over}
-use Rattle.sheets.specs.Setting.{Readable, Field}
+use Rattle.sheets.specs.Setting.{ReadsNumber, ReadsLine}
 use Rattle.sheets.specs.OverLaws.{over_both}
 
 -- ---- one line
@@ -195,16 +197,6 @@ part_same i k t = ap (λ (m : ℕ). take m t) (add-sub_cancel_left i k)
 pub part_length : (i k : ℕ) (t : List ℕ) → i + k ≤ length t → length (take ((i + k) - i) (drop i t)) ≡ k
 part_length i k t h = ap length (part_same i k (drop i t)) ∙ length-take-le k (drop i t) (omega (arith, length-drop i t))
 
-module _ {at w : ℕ} {t : List ℕ} (h : Field at w t) where
-  pub field_readable : Readable (take ((at + w) - at) (drop at t))
-  field_readable =
-      subst (λ (u : List ℕ). Readable u) (sym (part_same at w (drop at t)))
-      (record { digit = h.digit; short = omega (arith, h.short, length-take-le w (drop at t) (omega (arith, h.inside, length-drop at t))) })
-
-  pub field_read : {x : ℕ} → x ≡ number (take ((at + w) - at) (drop at t)) → x ≡ field at w t
-  unfolding field
-  field_read e = e ∙ ap number (part_same at w (drop at t))
-
 -- a part p put behind what is done
 pub put_next : (i k : ℕ) (done rest p : List ℕ) → length done ≡ i
     → take i (done ++ rest) ++ (p ++ drop k (drop i (done ++ rest))) ≡ done ++ p ++ drop k rest
@@ -296,20 +288,30 @@ lines_written w {x} xs t l c e f h =
     let long : length (line (digits w x)) ≡ suc w = line_length_lem (digits w x) ∙ ap suc (digits-length w x) in
     over_both (line (digits w x)) (lines w xs) t long (f ∙ ap (λ (v : List ℕ). v ++ drop (suc w) t) one) h
 
--- ---- one line as the code makes it, from position at on
+-- ---- one line as the code makes it: b says that byte 10 ends it
 
-pub line_unended : (w at : ℕ) (t : List ℕ) → (get_or t (at + w) 0 ≡ newline → ⊥) → is_line w (drop at t) ≡ false
-line_unended w at t f = sym (is_false (is_line w (drop at t)) (λ r. f (sym (get_or-drop at t w 0) ∙ right_end w (drop at t) r)))
+module _ (w : ℕ) (t : List ℕ) {b : Bool} (h : b ≡ eqb (get_or t w 0) newline) where
+  pub line_unended : b ≡ false → is_line w t ≡ false
+  unfolding is_line
+  line_unended e = ap (λ (x : Bool). all is_digit (take w t) && x) (sym h ∙ e) ∙ never (all is_digit (take w t))
+    where
+      never : (x : Bool) → (x && false) ≡ false
+      never true = refl
+      never false = refl
 
-pub line_ended : (w at : ℕ) (t : List ℕ) → get_or t (at + w) 0 ≡ newline → all is_digit (take ((at + w) - at) (drop at t)) ≡ is_line w (drop at t)
-unfolding is_line
-line_ended w at t e =
-    ap (all is_digit) (part_same at w (drop at t))
-    ∙ go (all is_digit (take w (drop at t))) (eqb (get_or (drop at t) w 0) newline) (eq-eqb (get_or (drop at t) w 0) newline (get_or-drop at t w 0 ∙ e))
-  where
-    go : (a b : Bool) → b ≡ true → a ≡ (a && b)
-    go true b q = sym q
-    go false b q = refl
+  pub line_ended : b ≡ true → all is_digit (take w t) ≡ is_line w t
+  unfolding is_line
+  line_ended e = sym (ap (λ (x : Bool). all is_digit (take w t) && x) (sym h ∙ e) ∙ always (all is_digit (take w t)))
+    where
+      always : (x : Bool) → (x && true) ≡ x
+      always true = refl
+      always false = refl
+
+  -- what is read of its digits
+  pub line_read : b ≡ true → (r : Option ℕ) → ReadsNumber (take w t) r → ReadsLine w t r
+  unfolding field
+  line_read e (Some x) g = (g.0, sym (line_ended e) ∙ g.1)
+  line_read e None g = sym (line_ended e) ∙ g
 
 -- a line filled in: its digits first, and then the byte at its end
 pub line_filled : (n x : ℕ) (t d : List ℕ) → length t ≡ suc n → d ≡ digits (length (take n t)) x → set (d ++ drop n t) n newline ≡ line (digits n x)

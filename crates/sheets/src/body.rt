@@ -1,78 +1,54 @@
 // The lines below line 1: the silent set in line 2, and then row after row, one row a line.
-ghost use Rattle.std.specs.Prelude.{◌≡◌, ◌∷◌, ◌+◌, ◌*◌, ◌≤◌, length};
+ghost use Rattle.std.specs.Prelude.{◌≡◌, [], ◌∷◌, ◌+◌, ◌*◌, ◌≤◌, length};
 ghost use Rattle.sets.specs.Words.{width, mask, masks};
-ghost use Rattle.judging.specs.Refusal.{first_cause};
-ghost use Rattle.judging.specs.Calls.{passed, checked_reply};
-ghost use Rattle.sheets.specs.Lines.{lines, field, right_lines};
-ghost use Rattle.sheets.specs.Sheet.{row_digits, row_length, silent_in, rows_in, body_causes, over};
-ghost use Rattle.sheets.specs.Setting.{SetLine, BodyLines};
+ghost use Rattle.judging.specs.Setting.{Sized};
+ghost use Rattle.sheets.specs.Lines.{lines};
+ghost use Rattle.sheets.specs.Sheet.{row_digits, row_length, lines_cause, body_causes, over};
+ghost use Rattle.sheets.specs.Setting.{Judged, SaysSets, ReadsSet};
 
 use crate::{isolated, lines};
-use judging::{Checked, Refusal, check};
+use judging::{Refusal, check};
 use sets::Set;
 
-// Of `count` lines, how many stand before the first wrong one.
-fn right_lines(text: &[u8], count: usize) -> usize
-    requires { count ≤ width + 1 }
-    ensures { result ≡ right_lines row_digits count text.now }
+// The set in line a of the text, counted from 0, which is line a + 2 of the sheet.
+fn read_set(text: &[u8], a: usize) -> Result<Set, Refusal>
+    requires { (a ≤ width) × (a * row_length ≤ length text.now) }
+    ensures { ReadsSet a text.now result }
 {
-    let mut a = 0;
-    while a < count {
-        if !lines::is_line(text, a * lines::ROW_LENGTH, lines::ROW_DIGITS) {
-            return a;
-        }
-        a += 1;
-    }
-    a
+    let start = a * lines::ROW_LENGTH;
+    let Some(word) = lines::read(&text[start..], lines::ROW_DIGITS) else {
+        return Err(Refusal::Line(a + 2));
+    };
+    Ok(Set::from(word))
 }
 
-// The set in line a of the text, counted from 0.
-fn set_at(text: &[u8], a: usize) -> Set
-    requires { SetLine a text.now }
-    ensures { mask result ≡ field (a * row_length) row_digits text.now }
+// Reads the silent set and n rows, and stores the rows. Refusal: 8.
+fn read_lines(text: &[u8], rows: &mut [u64]) -> Result<Set, Refusal>
+    requires { Sized (masks rows.old) }
+    ensures { let n = length (masks rows.old) in Judged (lines_cause (n + 1) text.now ∷ []) (SaysSets n text.now (masks rows.new)) result }
 {
-    sets::of_word(lines::field(text, a * lines::ROW_LENGTH, lines::ROW_DIGITS))
-}
-
-// The silent set: line 2 is the first of the text.
-pub fn silent(text: &[u8]) -> Set
-    requires { SetLine 0 text.now }
-    ensures { mask result ≡ silent_in text.now }
-{
-    set_at(text, 0)
-}
-
-// Stores the rows of the text, as many as there is room for: row 0 is its second line.
-pub fn store_rows(text: &[u8], rows: &mut [u64])
-    requires { BodyLines (length (masks rows.old)) text.now }
-    ensures { masks rows.new ≡ rows_in (length (masks rows.old)) text.now }
-{
+    let silent = read_set(text, 0)?;
     let n = sets::count(rows);
-    let mut a = 0;
-    while a < n {
-        sets::put(rows, a, set_at(text, a + 1));
-        a += 1;
+    for a in 0..n {
+        let row = read_set(text, a + 1)?;
+        sets::put(rows, a, row);
     }
+    let count = n + 1;
+    if count * lines::ROW_LENGTH < text.len() {
+        return Err(Refusal::Line(count + 2));
+    }
+    Ok(silent)
 }
 
-// Judges the lines of the silent set and of n rows without storing a row. Refusals: 8, 7, 4, 5, 14.
-pub fn check_body(text: &[u8], n: usize) -> Checked
-    requires { (1 ≤ n) × (n ≤ width) }
-    ensures { checked_reply result ≡ first_cause (body_causes n text.now) passed }
+// Reads the silent set and n rows, and stores the rows. Refusals: 8, 7, 4, 5, 14; one may leave some of the rows stored.
+pub fn read_body(text: &[u8], rows: &mut [u64]) -> Result<Set, Refusal>
+    requires { Sized (masks rows.old) }
+    ensures { let n = length (masks rows.old) in Judged (body_causes n text.now) (SaysSets n text.now (masks rows.new)) result }
 {
-    let count = n + 1;
-    let a = right_lines(text, count);
-    if a < count {
-        return Checked::Failed(Refusal::Line(a + 2));
-    }
-    if count * lines::ROW_LENGTH < text.len() {
-        return Checked::Failed(Refusal::Line(count + 2));
-    }
-    let mut table = [0u64; sets::TABLE];
-    let end = sets::offset(&table, n);
-    store_rows(text, &mut table[..end]);
-    let rows = &table[..end];
-    isolated::then_isolated(check::check_silent(rows, silent(text)), rows)
+    let silent = read_lines(text, rows)?;
+    check::check_silent(rows, silent)?;
+    isolated::check_isolated(rows)?;
+    Ok(silent)
 }
 
 // Writes the silent set and then each row on a line, to the front of the text.

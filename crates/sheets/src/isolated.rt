@@ -1,38 +1,32 @@
 // Isolated vertices, those whose row is 0: a sheet with one is neither read nor written.
-ghost use Rattle.std.specs.Prelude.{◌≡◌, List, [], ◌∷◌, ◌++◌, length};
+ghost use Rattle.std.specs.Prelude.{◌≡◌, [], ◌∷◌, length};
 ghost use Rattle.sets.specs.Words.{masks};
-ghost use Rattle.judging.specs.Refusal.{Cause, first_cause, lowest_row};
+ghost use Rattle.judging.specs.Refusal.{first_cause};
 ghost use Rattle.judging.specs.Calls.{passed, checked_reply};
+ghost use Rattle.judging.specs.Setting.{FindsRow};
 ghost use Rattle.sheets.specs.Sheet.{isolated, isolated_cause};
 
-use judging::{Checked, Refusal};
+use judging::Refusal;
 
-// The lowest row that is 0; n where there is none.
-fn lowest_isolated(rows: &[u64]) -> usize
-    ensures { result ≡ lowest_row (isolated (masks rows.now)) (length (masks rows.now)) }
+// The lowest row that is 0.
+fn lowest_isolated(rows: &[u64]) -> Option<usize>
+    ensures { FindsRow (isolated (masks rows.now)) (length (masks rows.now)) result }
 {
     let n = sets::count(rows);
-    let mut a = 0;
-    while a < n {
-        if sets::is_empty(sets::get(rows, a)) {
-            return a;
+    for a in 0..n {
+        if sets::get(rows, a).is_empty() {
+            return Some(a);
         }
-        a += 1;
     }
-    a
+    None
 }
 
-// What the checks before it gave, and then refusal 14.
-pub fn then_isolated(checked: Checked, rows: &[u64]) -> Checked
-    ensures { (xs : List Cause) → checked_reply checked ≡ first_cause xs passed
-        → checked_reply result ≡ first_cause (xs ++ isolated_cause (masks rows.now) ∷ []) passed }
+// Refusal 14.
+pub fn check_isolated(rows: &[u64]) -> Result<(), Refusal>
+    ensures { checked_reply result ≡ first_cause (isolated_cause (masks rows.now) ∷ []) passed }
 {
-    if let Checked::Failed(f) = checked {
-        return Checked::Failed(f);
+    if let Some(a) = lowest_isolated(rows) {
+        return Err(Refusal::Isolated(a));
     }
-    let a = lowest_isolated(rows);
-    if a < sets::count(rows) {
-        return Checked::Failed(Refusal::Isolated(a));
-    }
-    Checked::Passed
+    Ok(())
 }

@@ -16,148 +16,133 @@ mod isolated_sheets;
 mod largest_plex;
 mod list_edges;
 mod looseness;
+mod memory;
 mod refusals;
 mod requests;
 mod sheet;
 mod silent;
 mod tally;
+mod texts;
 mod words;
 
-use crate::compare::Call;
+use crate::compare::FAMILIES;
+use crate::graphs::Family;
 use crate::tally::Tally;
 use judging::check::MOST_SLACK;
 use std::io;
 
-// How many graphs of each number of vertices a group of pseudo-random ones has: ten of each density from 0 to 100 in steps of 5.
-const RANDOM: usize = 210;
+// The most vertices where lists are compared; where this is done for each of some silent sets; and where it is done after each change.
+const MOST_LISTED: usize = 16;
 
-// How many variants of the other families are changed: eight of each slack.
+const MOST_SILENT: usize = 12;
+
+const MOST_CHANGED: usize = 14;
+
+// The most vertices where every set is asked for, forced or how loose it is, and where every core is.
+const MOST_ASKED: usize = 10;
+
+// How many variants of a family are changed, or more: eight of each slack.
 const CHANGED: usize = 8 * MOST_SLACK;
 
-fn list_cases(rt: &impl Print) -> io::Result<()> {
-    tally::print(rt, "accepted slack and floor", list_edges::ranges())?;
-    tally::print(rt, "all of 64 adjacent", list_edges::all_adjacent())?;
-    tally::print(rt, "floor above n, no slots", list_edges::none())?;
-    tally::print(rt, "silent vertices", silent::found(rt)?)?;
-    tally::print(rt, "refusals of the list", list_edges::refused())
+fn list_cases(cases: &mut Tally<impl Print>) -> io::Result<()> {
+    list_edges::ranges(cases);
+    cases.print("accepted slack and floor")?;
+    list_edges::all_adjacent(cases);
+    cases.print("all of 64 adjacent")?;
+    list_edges::none(cases);
+    cases.print("floor above n, no slots")?;
+    silent::found(cases)?;
+    cases.print("silent vertices")?;
+    list_edges::refused(cases);
+    cases.print("refusals of the list")
 }
 
-fn refusal_cases(rt: &impl Print) -> io::Result<()> {
-    tally::print(rt, "refusals of judging maximality", refusals::judged())?;
-    tally::print(rt, "refusals of core and reach", refusals::found())?;
-    tally::print(rt, "refusals of the bounds", refusals::bounded())
+fn refusal_cases(cases: &mut Tally<impl Print>) -> io::Result<()> {
+    refusals::judged(cases);
+    cases.print("refusals of judging maximality")?;
+    refusals::found(cases);
+    cases.print("refusals of core and reach")?;
+    refusals::bounded(cases);
+    cases.print("refusals of the bounds")
 }
 
-fn sheet_cases(rt: &impl Print) -> io::Result<()> {
-    tally::print(rt, "sheets read", sheet::read())?;
-    tally::print(rt, "sheets written", sheet::written())?;
-    tally::print(rt, "sheets read back", sheet::read_back())
+fn sheet_cases(cases: &mut Tally<impl Print>) -> io::Result<()> {
+    sheet::read(cases);
+    cases.print("sheets read")?;
+    sheet::written(cases);
+    cases.print("sheets written")?;
+    sheet::read_back(cases);
+    cases.print("sheets read back")
 }
 
-fn isolated_cases(rt: &impl Print) -> io::Result<()> {
-    tally::print(rt, "vertices without edges, on rows", isolated::found(rt)?)
+fn row_cases(cases: &mut Tally<impl Print>) -> io::Result<()> {
+    isolated::found(cases)?;
+    cases.print("vertices without edges, on rows")?;
+    looseness::found(cases);
+    cases.print("looseness")?;
+    looseness::refused(cases);
+    cases.print("refusals of looseness")?;
+    cores::found(cases);
+    cases.print("cores and passes")?;
+    largest_plex::found(cases);
+    cases.print("largest k-plexes")?;
+    largest_plex::refused(cases);
+    cases.print("refusals of the largest")
 }
 
-fn looseness_cases(rt: &impl Print) -> io::Result<()> {
-    tally::print(rt, "looseness", looseness::found())?;
-    tally::print(rt, "refusals of looseness", looseness::refused())
+fn change_cases(cases: &mut Tally<impl Print>) -> io::Result<()> {
+    change_edges::found(cases)?;
+    cases.print("changes of a book")?;
+    change_edges::many(cases)?;
+    cases.print("changes at 4,096 sets")?;
+    change_refusals::refused(cases);
+    cases.print("refusals of a change")
 }
 
-fn core_cases(rt: &impl Print) -> io::Result<()> {
-    tally::print(rt, "cores and passes", cores::found())
+// The lists of so many variants of a family.
+fn listed(
+    cases: &mut Tally<impl Print>,
+    name: &str,
+    family: Family,
+    count: usize,
+) -> io::Result<()> {
+    compare::of_family(cases, family, MOST_LISTED, count, &compare::beside_all_sets)?;
+    cases.print(name)
 }
 
-fn largest_cases(rt: &impl Print) -> io::Result<()> {
-    tally::print(rt, "largest k-plexes", largest_plex::found())?;
-    tally::print(rt, "refusals of the largest", largest_plex::refused())
+fn lists(cases: &mut Tally<impl Print>) -> io::Result<()> {
+    listed(cases, "empty graphs", Family::EMPTY, 1)?;
+    for (name, family, count) in FAMILIES {
+        listed(cases, name, family, count)?;
+    }
+    Ok(())
 }
 
-fn change_cases(rt: &impl Print) -> io::Result<()> {
-    tally::print(rt, "changes of a book", change_edges::found(rt)?)?;
-    tally::print(rt, "changes at 4,096 sets", change_edges::many(rt)?)?;
-    tally::print(rt, "refusals of a change", change_refusals::refused())
-}
-
-// The lists of a family.
-fn listed(rt: &impl Print, family: usize, most: usize) -> io::Result<Tally> {
-    compare::group(rt, tally::none(), Call::List, family, most)
-}
-
-fn comparisons(rt: &impl Print) -> io::Result<()> {
-    tally::print(rt, "empty graphs", listed(rt, graphs::EMPTY, 1)?)?;
-    tally::print(rt, "complete graphs", listed(rt, graphs::COMPLETE, 1)?)?;
-    tally::print(rt, "rings", listed(rt, graphs::RING, 1)?)?;
-    tally::print(rt, "paths", listed(rt, graphs::PATH, 1)?)?;
-    tally::print(rt, "stars", listed(rt, graphs::STAR, 1)?)?;
-    tally::print(
-        rt,
-        "multipartite graphs",
-        listed(rt, graphs::MULTIPARTITE, 4)?,
-    )?;
-    tally::print(rt, "disjoint unions", listed(rt, graphs::UNION, 8)?)?;
-    tally::print(
-        rt,
-        "pseudo-random graphs",
-        listed(rt, graphs::RANDOM, RANDOM)?,
-    )
-}
-
-// Another call on the same graphs, where they have at most 10 vertices, or the lists with silent vertices, where they have at most 12.
-fn every_graph(rt: &impl Print, call: Call) -> io::Result<Tally> {
-    let mut cases = compare::group(rt, tally::none(), call, graphs::COMPLETE, 1)?;
-    cases = compare::group(rt, cases, call, graphs::RING, 1)?;
-    cases = compare::group(rt, cases, call, graphs::PATH, 1)?;
-    cases = compare::group(rt, cases, call, graphs::STAR, 1)?;
-    cases = compare::group(rt, cases, call, graphs::MULTIPARTITE, 4)?;
-    cases = compare::group(rt, cases, call, graphs::UNION, 8)?;
-    compare::group(rt, cases, call, graphs::RANDOM, RANDOM)
-}
-
-// Changes of the graphs of each family with at most 14 vertices.
-fn changed(rt: &impl Print) -> io::Result<Tally> {
-    let mut cases = compare::group(rt, tally::none(), Call::Change, graphs::COMPLETE, CHANGED)?;
-    cases = compare::group(rt, cases, Call::Change, graphs::RING, CHANGED)?;
-    cases = compare::group(rt, cases, Call::Change, graphs::PATH, CHANGED)?;
-    cases = compare::group(rt, cases, Call::Change, graphs::STAR, CHANGED)?;
-    cases = compare::group(rt, cases, Call::Change, graphs::MULTIPARTITE, CHANGED)?;
-    cases = compare::group(rt, cases, Call::Change, graphs::UNION, CHANGED)?;
-    compare::group(rt, cases, Call::Change, graphs::RANDOM, RANDOM)
+// The other calls on the same graphs, where they have few vertices.
+fn comparisons(cases: &mut Tally<impl Print>) -> io::Result<()> {
+    compare::families(cases, MOST_SILENT, 1, silent::beside_all_sets)?;
+    cases.print("silent vertices against all sets")?;
+    compare::families(cases, MOST_ASKED, 1, largest_plex::beside_all_sets)?;
+    cases.print("largest against all sets")?;
+    compare::families(cases, MOST_ASKED, 1, looseness::beside_definition)?;
+    cases.print("looseness against the definition")?;
+    compare::families(cases, MOST_ASKED, 1, cores::beside_definition)?;
+    cases.print("cores against the definition")?;
+    compare::families(cases, MOST_CHANGED, CHANGED, changes::beside_all_sets)?;
+    cases.print("changes against all sets")
 }
 
 // Prints the line of every group.
-fn run(rt: &impl Print) -> io::Result<()> {
-    list_cases(rt)?;
-    refusal_cases(rt)?;
-    sheet_cases(rt)?;
-    isolated_cases(rt)?;
-    looseness_cases(rt)?;
-    core_cases(rt)?;
-    largest_cases(rt)?;
-    change_cases(rt)?;
-    comparisons(rt)?;
-    tally::print(
-        rt,
-        "silent vertices against all sets",
-        every_graph(rt, Call::Silent)?,
-    )?;
-    tally::print(
-        rt,
-        "largest against all sets",
-        every_graph(rt, Call::Largest)?,
-    )?;
-    tally::print(
-        rt,
-        "looseness against the definition",
-        every_graph(rt, Call::Looseness)?,
-    )?;
-    tally::print(
-        rt,
-        "cores against the definition",
-        every_graph(rt, Call::Core)?,
-    )?;
-    tally::print(rt, "changes against all sets", changed(rt)?)
+fn run(cases: &mut Tally<impl Print>) -> io::Result<()> {
+    list_cases(cases)?;
+    refusal_cases(cases)?;
+    sheet_cases(cases)?;
+    row_cases(cases)?;
+    change_cases(cases)?;
+    lists(cases)?;
+    comparisons(cases)
 }
 
 fn main(rt: HostRuntime) -> io::Result<()> {
-    run(&rt)
+    run(&mut Tally::new(&rt))
 }

@@ -3,24 +3,25 @@ ghost use Rattle.std.specs.Prelude.{◌≤◌, length};
 
 use sets::Set;
 
-// The mask of what slots and rows hold before a call.
-pub const GARBAGE: u64 = 14627333968358193854;
+// What each word of slots and rows holds before a call.
+pub const GARBAGE: u64 = 0xcafebabecafebabe;
 
 pub fn at(words: &[u64], i: usize) -> Set {
     if i < sets::count(words) {
-        return sets::get(words, i);
+        sets::get(words, i)
+    } else {
+        Set::empty()
     }
-    sets::empty()
 }
 
-pub fn store(words: &mut [u64], i: usize, x: Set) {
+pub fn store(words: &mut [u64], i: usize, s: Set) {
     if i < sets::count(words) {
-        sets::put(words, i, x);
+        sets::put(words, i, s);
     }
 }
 
 // The word at which position n starts, or the end where there are fewer sets.
-pub fn end(words: &[u64], n: usize) -> usize
+fn end(words: &[u64], n: usize) -> usize
     ensures { result ≤ length words.now }
 {
     if sets::count(words) < n {
@@ -29,64 +30,29 @@ pub fn end(words: &[u64], n: usize) -> usize
     sets::offset(words, n)
 }
 
-// Is the mask of s x?
-pub fn is(s: Set, x: u64) -> bool {
-    sets::same(s, sets::of_word(x))
+// The first n sets, or all where there are fewer.
+pub fn front(words: &[u64], n: usize) -> &[u64] {
+    &words[..end(words, n)]
 }
 
-// Every set becomes that of the mask x.
-pub fn fill(words: &mut [u64], x: u64) {
-    let n = sets::count(words);
-    let mut i = 0;
-    while i < n {
-        store(words, i, sets::of_word(x));
-        i += 1;
-    }
+pub fn front_mut(words: &mut [u64], n: usize) -> &mut [u64] {
+    let end = end(words, n);
+    &mut words[..end]
 }
 
-// The sets of `from` become the first ones.
-pub fn copy(from: &[u64], words: &mut [u64]) {
-    let n = sets::count(from);
-    let mut i = 0;
-    while i < n {
-        store(words, i, at(from, i));
-        i += 1;
-    }
+// The sets behind the first n.
+pub fn behind(words: &[u64], n: usize) -> &[u64] {
+    &words[end(words, n)..]
 }
 
-// The sets of these masks become the first ones.
-pub fn of_masks(masks: &[u64], words: &mut [u64]) {
-    let mut i = 0;
-    while i < masks.len() {
-        store(words, i, sets::of_word(masks[i]));
-        i += 1;
-    }
+// Is every word x?
+pub fn all_are(words: &[u64], x: u64) -> bool {
+    words.iter().all(|word| *word == x)
 }
 
-// Is x the mask of every set from position `from` on?
-pub fn all_are(words: &[u64], from: usize, x: u64) -> bool {
-    let n = sets::count(words);
-    let mut i = from;
-    while i < n {
-        if !is(at(words, i), x) {
-            return false;
-        }
-        i += 1;
-    }
-    true
-}
-
-// Have both m sets, and are these the same?
-pub fn same_front(a: &[u64], b: &[u64], m: usize) -> bool {
-    if (sets::count(a) < m) | (sets::count(b) < m) {
-        return false;
-    }
-    let mut i = 0;
-    while i < m {
-        if !sets::same(at(a, i), at(b, i)) {
-            return false;
-        }
-        i += 1;
-    }
-    true
+// Are these the first sets, and lies garbage behind them?
+pub fn holds(words: &[u64], first: &[u64]) -> bool {
+    words
+        .strip_prefix(first)
+        .is_some_and(|rest| all_are(rest, GARBAGE))
 }

@@ -1,16 +1,17 @@
 -- The checks decide first: a refusal is the call's, and once all have passed the first bound is the answer.
-use Rattle.judging.specs.CallLaws.{check_failed, none_holds, check_answers}
+use mathlib.Core.Path.{sym}
+use Rattle.judging.specs.CallLaws.{handed_on, check_failed, check_answers}
 use Rattle.bounds.specs.BoundCalls.{first_bound_reply}
 use Rattle.bounds.specs.BoundCallLaws.{bound_checked}
 use Rattle.bounds.proofs.first_bound.Goals as goal
 
-pub returns-in-Failed : goal.returns-in-Failed
+pub returns-in_err-check_bound : goal.returns-in_err-check_bound
 unfolding first_bound_reply
-returns-in-Failed c = check_failed _ _ c.check_bound-checked.ensures _ _ c.in-Failed.is
+returns-in_err-check_bound c = rw (handed_on _ c.from_residual.ensures.1) (check_failed _ _ _ c.in_err-check_bound.ensures)
 
-pub first_bound-first-requires : goal.first_bound-first-requires
-first_bound-first-requires c = bound_checked _ _ _ _ _ (none_holds _ _ c.check_bound-checked.ensures c.in_default.is)
+pub first_bound-requires : goal.first_bound-requires
+first_bound-requires c = bound_checked _ _ _ _ _ (sym c.in_ok-check_bound.ensures)
 
 pub returns : goal.returns
 unfolding first_bound_reply
-returns c = check_answers _ c.check_bound-checked.ensures c.in_default.is c.first_bound-first.ensures
+returns c = check_answers _ c.in_ok-check_bound.ensures c.first_bound.ensures

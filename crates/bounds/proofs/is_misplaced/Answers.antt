@@ -1,5 +1,4 @@
 -- The parts of cause 10 are tested one after the other: s with v is looser than k, v is not in c, s and c overlap.
-use borrow.Author.Tests.{not-true, not-false}
 use Rattle.sets.specs.SubsetLaws.{with_below}
 use Rattle.bounds.specs.BoundCallLaws.{misplaced_loose, misplaced_vertex, misplaced-overlap}
 use Rattle.bounds.proofs.is_misplaced.Goals as goal
@@ -15,9 +14,9 @@ returns-then-k-looseness c = misplaced_loose _ _ _ _ _ c.with.ensures c.loosenes
 pub returns-then-not-has : goal.returns-then-not-has
 returns-then-not-has c =
     misplaced_vertex _ _ _ _ _ c.with.ensures c.looseness.ensures c.if-k-looseness.false
-    c.has.ensures (not-true _ c.if-not-has.true-raw)
+    c.has.ensures c.if-not-has.true
 
 pub returns : goal.returns
 returns c =
     misplaced-overlap _ _ _ _ _ c.with.ensures c.looseness.ensures c.if-k-looseness.false
-    c.has.ensures (not-false _ c.if-not-has.false-raw) c.meet.ensures c.is_empty.ensures
+    c.has.ensures c.if-not-has.false c.meet.ensures c.is_empty.ensures

@@ -6,4 +6,4 @@ use Rattle.kadvisk.proofs.kadvisk_change.Goals as goal
 pub returns : goal.returns
 returns c =
     let left = rw c.request_of.ensures at c.change-found.ensures in
-    record { answer = c.listed.ensures ∙ ap (outcome nothing) left.reply; rows = left.rows; slots = left.slots }
+    record { answer = c.value.ensures ∙ ap (outcome nothing) left.reply; rows = left.rows; slots = left.slots }

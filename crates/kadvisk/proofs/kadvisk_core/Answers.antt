@@ -2,4 +2,4 @@
 use Rattle.kadvisk.proofs.kadvisk_core.Goals as goal
 
 pub returns : goal.returns
-returns c = rw (← c.find_core-found.ensures) c.core.ensures
+returns c = rw (← c.find_core.ensures) c.core.ensures

@@ -2,4 +2,4 @@
 use Rattle.kadvisk.proofs.kadvisk_first_bound.Goals as goal
 
 pub returns : goal.returns
-returns c = rw (← c.of_word.ensures, ← c.of_word-2.ensures, ← c.first_bound-found.ensures) c.bound.ensures
+returns c = rw (← c.from.ensures, ← c.from-2.ensures, ← c.first_bound-found.ensures) c.number.ensures

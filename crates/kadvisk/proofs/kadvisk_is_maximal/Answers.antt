@@ -2,4 +2,4 @@
 use Rattle.kadvisk.proofs.kadvisk_is_maximal.Goals as goal
 
 pub returns : goal.returns
-returns c = rw (← c.of_word.ensures, ← c.judge_maximal-judged.ensures) c.judged.ensures
+returns c = rw (← c.from.ensures, ← c.judge_maximal.ensures) c.judged.ensures

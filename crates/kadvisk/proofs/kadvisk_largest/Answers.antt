@@ -2,4 +2,4 @@
 use Rattle.kadvisk.proofs.kadvisk_largest.Goals as goal
 
 pub returns : goal.returns
-returns c = rw (← c.of_word.ensures, ← c.largest-found.ensures) c.largest.ensures
+returns c = rw (← c.from.ensures, ← c.largest.ensures) c.largest-2.ensures

@@ -6,4 +6,4 @@ use Rattle.kadvisk.proofs.kadvisk_list.Goals as goal
 pub returns : goal.returns
 returns c =
     let left = rw c.request_of.ensures at c.list-found.ensures in
-    record { answer = c.listed.ensures ∙ ap (outcome nothing) left.reply; slots = left.slots }
+    record { answer = c.value.ensures ∙ ap (outcome nothing) left.reply; slots = left.slots }

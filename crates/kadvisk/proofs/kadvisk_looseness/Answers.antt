@@ -2,4 +2,4 @@
 use Rattle.kadvisk.proofs.kadvisk_looseness.Goals as goal
 
 pub returns : goal.returns
-returns c = rw (← c.of_word.ensures, ← c.looseness-found.ensures) c.loose.ensures
+returns c = rw (← c.from.ensures, ← c.looseness.ensures) c.number.ensures

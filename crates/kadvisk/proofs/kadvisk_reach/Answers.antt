@@ -2,4 +2,4 @@
 use Rattle.kadvisk.proofs.kadvisk_reach.Goals as goal
 
 pub returns : goal.returns
-returns c = rw (← c.find_reach-found.ensures) c.reach.ensures
+returns c = rw (← c.find_reach.ensures) c.reach.ensures

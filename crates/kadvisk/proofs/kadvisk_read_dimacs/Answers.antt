@@ -4,4 +4,4 @@ use Rattle.kadvisk.specs.Outcome.{outcome, nothing}
 use Rattle.kadvisk.proofs.kadvisk_read_dimacs.Goals as goal
 
 pub returns : goal.returns
-returns c = record { answer = c.dimacs_read.ensures ∙ ap (outcome nothing) c.read_dimacs-read.ensures.reply; rows = c.read_dimacs-read.ensures.rows }
+returns c = record { answer = c.value.ensures ∙ ap (outcome nothing) c.read_dimacs.ensures.reply; rows = c.read_dimacs.ensures.rows }

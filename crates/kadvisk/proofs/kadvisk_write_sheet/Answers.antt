@@ -6,4 +6,4 @@ use Rattle.kadvisk.proofs.kadvisk_write_sheet.Goals as goal
 pub returns : goal.returns
 returns c =
     let left = rw c.request_of.ensures at c.write_sheet-written.ensures in
-    record { answer = c.written.ensures ∙ ap (outcome nothing) left.reply; text = left.text }
+    record { answer = c.value.ensures ∙ ap (outcome nothing) left.reply; text = left.text }

@@ -5,4 +5,4 @@ use Rattle.judging.specs.Request.{request}
 use Rattle.kadvisk.proofs.request_of.Goals as goal
 
 pub returns : goal.returns
-returns c = ap (λ (z : ℕ). request c.args.slack c.args.floor z) c.of_word.ensures
+returns c = ap (λ (z : ℕ). request c.args.slack c.args.floor z) c.from.ensures

@@ -1,5 +1,4 @@
 -- Every listed plex lies in the core, and in the set of all vertices.
-use native.Mathlib.Omega.{arith}
 use mathlib.Core.Path.{ap, ◌∙◌}
 use Rattle.sets.specs.Set.{full}
 use Rattle.search.specs.StartLaws.{core_candidates, all_candidates}
@@ -7,9 +6,6 @@ use Rattle.search.proofs.candidates.Goals as goal
 
 pub returns-then-k-q : goal.returns-then-k-q
 returns-then-k-q c = core_candidates c.core.ensures
-
-pub full-requires : goal.full-requires
-full-requires c = (omega (arith, c.count.ensures, c.requires.sized.some), omega (arith, c.count.ensures, c.requires.sized.most))
 
 pub returns : goal.returns
 returns c = all_candidates (c.full.ensures ∙ ap full c.count.ensures)

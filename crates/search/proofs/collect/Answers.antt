@@ -2,7 +2,7 @@
 use Rattle.std.specs.Prelude.{◌≡◌, ℕ, ◌≤◌, List, length}
 use native.Mathlib.Omega.{arith}
 use mathlib.Core.Path.{sym, ◌∙◌}
-use lib.Seq.{length_front, length-take-le}
+use lib.Seq.{length-take-le}
 use Rattle.sets.specs.Words.{masks}
 use Rattle.sets.specs.Words.Masks.{offset_fits, lent_before, back_before}
 use Rattle.search.specs.CallLaws.{added_length, collects_fits, collects_short}
@@ -12,11 +12,6 @@ use Rattle.search.proofs.collect.Goals as goal
 pub returns-then-room-m : goal.returns-then-room-m
 returns-then-room-m c =
     collects_short c.requires.0 c.enumerate-m.ensures (omega (arith, c.if-room-m.true, c.count-room.ensures, added_length c.requires.0 c.enumerate-m.ensures))
-
-pub offset-end-requires : goal.offset-end-requires
-offset-end-requires c =
-    let room_fits : c.enumerate-m.result ≤ length (masks c.enumerate-m.new.slots) = omega (arith, c.if-room-m.false, c.count-room.ensures) in
-    room_fits
 
 pub slice_bounds-sort-end : goal.slice_bounds-sort-end
 slice_bounds-sort-end c =
@@ -31,9 +26,6 @@ slice_bounds-sort-end-2 c =
     let end_fits : c.offset-end.result ≤ length c.enumerate-m.new.slots =
     offset_fits c.enumerate-m.result c.offset-end.result c.enumerate-m.new.slots c.offset-end.ensures room_fits in
     sym (length-take-le _ _ end_fits)
-
-pub shape_of-slots : goal.shape_of-slots
-shape_of-slots c = length_front c.enumerate-m.new.slots c.sort.new.part c.offset-end.result c.sort.auto.part ∙ c.enumerate-m.auto.slots
 
 pub returns : goal.returns
 returns c =

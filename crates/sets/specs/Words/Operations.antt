@@ -6,6 +6,14 @@ use Rattle.std.proofs.lemmas.Nat.{and_mask, ones-le}
 use Rattle.std.specs.Int.Count.{ones, count_trailing_zeros}
 use Rattle.std.proofs.Math.Seq.{length-sets}
 use mir.Val.{bool_byte}
+use Rattle.std.proofs.Common.{Less, Equal, Greater}
+use Rattle.std.specs.Ordering.{is_lt, is_le, nat_cmp, ord_min, ord_max}
+use Rattle.sets.specs.contracts.SetOrd
+use Rattle.std.specs.Prelude.{max}
+use Rattle.std.specs.Cmp.{nat_cmp_is}
+use Rattle.std.proofs.lemmas.Bool.{lt-ltb, le-ltb, ltb-true, ltb-false}
+use Rattle.std.proofs.Math.Decide.{dec_lt}
+use Rattle.std.specs.Prelude.{not}
 use Rattle.sets.specs.Ranges.{total}
 use Rattle.sets.specs.Set.{bit, has, size, minus, without, full}
 use Rattle.sets.specs.Graph.{row}
@@ -121,6 +129,38 @@ same_mask s t = ap₂ eqb (sym (of_word_mask s.word)) (sym (of_word_mask t.word)
 pub precedes_mask : (s t : Set) → ltb s.word t.word ≡ ltb (mask s) (mask t)
 unfolding mask
 precedes_mask s t = sym (order_at [] [] s.word t.word [] tt tt refl (λ l. absurd (omega (arith, l))))
+
+-- the order of sets, as `<` and `<=` test it
+pub lt_mask : (s t : Set) → is_lt (nat_cmp s.word t.word) ≡ ltb (mask s) (mask t)
+lt_mask s t = lt_at s.word t.word (dec_lt s.word t.word) (dec_lt t.word s.word) ∙ precedes_mask s t
+  where
+    lt_at : (x y : ℕ) → Dec (x < y) → Dec (y < x) → is_lt (nat_cmp x y) ≡ ltb x y
+    lt_at x y (yes l) _ = sym (ap is_lt (nat_cmp_is x y Less l)) ∙ sym (lt-ltb x y l)
+    lt_at x y (no nl) (yes m) = sym (ap is_lt (nat_cmp_is x y Greater m)) ∙ sym (le-ltb x y (omega arith))
+    lt_at x y (no nl) (no nm) = sym (ap is_lt (nat_cmp_is x y Equal (omega arith))) ∙ sym (le-ltb x y (omega arith))
+
+pub le_mask : (s t : Set) → is_le (nat_cmp s.word t.word) ≡ not (ltb (mask t) (mask s))
+le_mask s t = le_at s.word t.word (dec_lt s.word t.word) (dec_lt t.word s.word) ∙ ap not (precedes_mask t s)
+  where
+    le_at : (x y : ℕ) → Dec (x < y) → Dec (y < x) → is_le (nat_cmp x y) ≡ not (ltb y x)
+    le_at x y (yes l) _ = sym (ap is_le (nat_cmp_is x y Less l)) ∙ ap not (sym (le-ltb y x (omega arith)))
+    le_at x y (no nl) (yes m) = sym (ap is_le (nat_cmp_is x y Greater m)) ∙ ap not (sym (lt-ltb y x m))
+    le_at x y (no nl) (no nm) = sym (ap is_le (nat_cmp_is x y Equal (omega arith))) ∙ ap not (sym (le-ltb y x (omega arith)))
+
+-- the lesser and the greater of two sets, as `min` and `max` choose them
+pub min_mask : (s t : Set) → mask (ord_min SetOrd.TheImpl.cmp-value.it s t) ≡ min (mask s) (mask t)
+min_mask s t = chosen (is_lt (nat_cmp t.word s.word)) (lt_mask t s)
+  where
+    chosen : (b : Bool) → b ≡ ltb (mask t) (mask s) → mask (cond b t s) ≡ min (mask s) (mask t)
+    chosen true e = omega (arith, ltb-true (mask t) (mask s) (sym e))
+    chosen false e = omega (arith, ltb-false (mask t) (mask s) (sym e))
+
+pub max_mask : (s t : Set) → mask (ord_max SetOrd.TheImpl.cmp-value.it s t) ≡ max (mask s) (mask t)
+max_mask s t = chosen (is_lt (nat_cmp t.word s.word)) (lt_mask t s)
+  where
+    chosen : (b : Bool) → b ≡ ltb (mask t) (mask s) → mask (cond b s t) ≡ max (mask s) (mask t)
+    chosen true e = omega (arith, ltb-true (mask t) (mask s) (sym e))
+    chosen false e = omega (arith, ltb-false (mask t) (mask s) (sym e))
 
 -- ---- the lowest member
 

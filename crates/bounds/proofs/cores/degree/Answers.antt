@@ -1,6 +1,5 @@
 -- The members that s shares with the row of v are those that v is adjacent to.
-use mathlib.Core.Path.{ap, ◌∙◌}
-use lib.Bits.{bit_and}
+use Rattle.std.proofs.Common.{ap, ◌∙◌, bit_and}
 use Rattle.sets.specs.Set.{size}
 use Rattle.sets.specs.Words.{mask}
 use Rattle.judging.specs.Graph.{degree}

@@ -1,7 +1,6 @@
 -- The vertices below v have been looked at (`FirstPass`): at a look v stays or goes, as the definition has it, and where it goes those beside it come into
 -- doubt.
-use native.Mathlib.Omega.{arith}
-use Rattle.std.specs.Prelude.{◌<◌, length}
+use Rattle.std.proofs.Common.{arith, ◌<◌, length}
 use Rattle.sets.specs.Words.{masks}
 use Rattle.bounds.specs.DoubtLaws.{first_pass_none, first_pass_stays, first_pass_goes, first_pass_all}
 use Rattle.bounds.proofs.cores.first_pass.Goals as goal
@@ -10,24 +9,9 @@ use Rattle.bounds.proofs.cores.first_pass.Goals.{then-degree-m, else-degree-m}
 pub loop-v-init : goal.loop-v-init
 loop-v-init c = first_pass_none
 
-pub degree-requires : goal.degree-requires
-degree-requires c = omega (arith, c.loop-v-test.true, c.count.ensures)
-
-pub without-kept-requires : goal.without-kept-requires
-without-kept-requires c = omega (arith, c.loop-v-test.true, c.count.ensures, c.requires.inside.most)
-
-pub get-requires : goal.get-requires
-get-requires c = omega (arith, c.loop-v-test.true, c.count.ensures)
-
-pub overflow_add-v : goal.overflow_add-v
-overflow_add-v c = omega (arith, c.loop-v-test.true, c.count.ensures, c.requires.inside.most)
-
-pub loop-v-smaller : goal.loop-v-smaller
-loop-v-smaller c = omega (arith, c.loop-v-test.true, c.count.ensures)
-
 pub loop-v-preserved : goal.loop-v-preserved
 loop-v-preserved c =
-    let vertex : c.loop-v.v < length (masks c.args.rows.now) = omega (arith, c.loop-v-test.true, c.count.ensures) in
+    let vertex : c.loop-v.v < length (masks c.args.rows.now) = omega (arith, c.loop-v-test.true, c.count-v-end.ensures) in
     elim c.if-degree-m.branch [
       | then-degree-m w ↦
           rw (w.kept-is, w.doubt-is, w.join-doubt.ensures, w.meet.ensures, w.get.ensures, w.without-kept.ensures)
@@ -39,4 +23,4 @@ loop-v-preserved c =
 pub returns : goal.returns
 returns c =
     rw c.meet-left.ensures
-    (first_pass_all c.loop-v.invariant (omega (arith, c.loop-v-test.false, c.count.ensures)))
+    (first_pass_all c.loop-v.invariant (omega (arith, c.loop-v-test.false, c.count-v-end.ensures)))

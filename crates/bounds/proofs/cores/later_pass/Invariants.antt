@@ -1,6 +1,6 @@
 -- The pass has come to some vertex (`LaterPass`): the lowest of `left` is looked at next, as those before it would stay. At a look v stays or goes, as the
 -- definition has it. The pass ends because a look takes v out of `left`, or out of `kept`.
-use Rattle.std.specs.Prelude.{◌+◌, ◌*◌, ◌^◌, length}
+use Rattle.std.proofs.Common.{◌+◌, ◌*◌, ◌^◌, length}
 use Rattle.sets.specs.Words.{mask, masks}
 use Rattle.bounds.specs.DoubtLaws.{LaterPass}
 use Rattle.bounds.proofs.cores.later_pass.Given as goal

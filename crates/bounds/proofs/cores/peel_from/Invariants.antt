@@ -5,7 +5,7 @@ use Rattle.bounds.specs.PeelLaws.{Peels}
 use Rattle.bounds.proofs.cores.peel_from.Given as goal
 
 abbrev pub invariant-loop-s : goal.invariant-loop-s
-invariant-loop-s l = Peels (masks l.rows) l.m (mask l.initial.s) (mask l.s) (mask l.kept) (mask l.doubt) l.passes
+invariant-loop-s l = Peels (masks l.rows) l.m (mask l.initial.s) (mask l.s) (mask l.passed.kept) (mask l.passed.doubt) l.passes
 
 abbrev pub decreases-loop-s : goal.decreases-loop-s
 decreases-loop-s l = mask l.s

@@ -1,16 +1,12 @@
 -- What is found midway through the neighbours of v is their rows joined so far, and nothing outside the reach (`Reaching`); at the end it is the reach.
-use Rattle.std.specs.Prelude.{◌<◌, length}
-use native.Mathlib.Omega.{arith}
+use Rattle.std.proofs.Common.{◌<◌, length, arith}
 use Rattle.sets.specs.Words.{masks}
-use Rattle.sets.specs.WalkLaws.{walk_falls, walk_below, walk_goes_on, walk_over}
+use Rattle.sets.specs.WalkLaws.{walk_falls, walk_below, empty_holds}
 use Rattle.bounds.specs.ReachLaws.{reaching_none, reaching_next, reaching_all}
 use Rattle.bounds.proofs.reach.reach.Goals as goal
 
 pub loop-left-init : goal.loop-left-init
 loop-left-init c = rw (c.with-found.ensures, c.get-left.ensures) (reaching_none c.requires.0 (omega arith))
-
-pub lowest-w-requires : goal.lowest-w-requires
-lowest-w-requires c = walk_goes_on c.is_empty.ensures c.loop-left-test.true-raw
 
 pub get-requires : goal.get-requires
 get-requires c =
@@ -29,4 +25,4 @@ loop-left-preserved c =
     (reaching_next c.requires.0 vertex c.loop-left.invariant c.lowest-w.ensures)
 
 pub returns : goal.returns
-returns c = reaching_all c.loop-left.invariant (walk_over c.is_empty.ensures c.loop-left-test.false-raw)
+returns c = reaching_all c.loop-left.invariant (empty_holds c.is_empty.ensures c.loop-left-test.false)

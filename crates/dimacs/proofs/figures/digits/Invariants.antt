@@ -1,11 +1,7 @@
--- At each turn x is the number of the digits before i, capped (Numbering), so that ten times x and a digit more fit: the first byte that is no digit ends it.
-use Prim.Native.Nat.{◌-◌}
-use lib.ListN.{length}
+-- At each turn x is the number of the digits before the index, capped (Numbering), so that ten times x and a digit more fit: the first byte that is no digit
+-- ends it.
 use Rattle.dimacs.specs.FigureLaws.{Numbering}
 use Rattle.dimacs.proofs.figures.digits.Given as goal
 
-abbrev pub invariant-loop-i : goal.invariant-loop-i
-invariant-loop-i l = Numbering l.text l.i l.x
-
-abbrev pub decreases-loop-i : goal.decreases-loop-i
-decreases-loop-i l = length l.text - l.i
+abbrev pub invariant-loop-b : goal.invariant-loop-b
+invariant-loop-b l = Numbering l.text l.b-index l.x

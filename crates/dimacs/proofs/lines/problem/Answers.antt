@@ -1,13 +1,14 @@
--- What is told of both fields decides, as in the definition: an m above its limit, or none, makes the line one of another shape.
-use native.Mathlib.Omega.{arith}
+-- What is told of the two fields decides, as in the definition: an m above its limit makes the line one of another shape.
+use Rattle.std.proofs.Common.{◌∙◌, ap}
+use Rattle.dimacs.specs.Setting.{kind_told}
 use Rattle.dimacs.specs.LineLaws.{problem_other, problem_large, problem_told}
 use Rattle.dimacs.proofs.lines.problem.Goals as goal
 
-pub returns-then-pair-eq-NO_FIGURE : goal.returns-then-pair-eq-NO_FIGURE
-returns-then-pair-eq-NO_FIGURE c = problem_other _ c.fields-pair.ensures.0 c.fields-pair.ensures.1 c.if-pair-eq-NO_FIGURE.true
+pub returns-in_err-vertices : goal.returns-in_err-vertices
+returns-in_err-vertices c = ap kind_told c.from_residual.ensures ∙ problem_other _ c.in_err-vertices.ensures
 
-pub returns-then-pair-gt-MOST_EDGES : goal.returns-then-pair-gt-MOST_EDGES
-returns-then-pair-gt-MOST_EDGES c = problem_large _ c.fields-pair.ensures.0 c.fields-pair.ensures.1 c.if-pair-eq-NO_FIGURE.false (omega arith)
+pub returns-then-edges-gt-MOST_EDGES : goal.returns-then-edges-gt-MOST_EDGES
+returns-then-edges-gt-MOST_EDGES c = problem_large _ c.in_ok-vertices.ensures c.if-edges-gt-MOST_EDGES.true
 
 pub returns : goal.returns
-returns c = problem_told _ c.fields-pair.ensures.0 c.fields-pair.ensures.1 c.if-pair-eq-NO_FIGURE.false (omega arith)
+returns c = problem_told _ c.in_ok-vertices.ensures c.if-edges-gt-MOST_EDGES.false

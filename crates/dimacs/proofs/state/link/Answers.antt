@@ -3,9 +3,6 @@ use native.Mathlib.Omega.{arith}
 use Rattle.dimacs.specs.RowLaws.{row_stays, both_added}
 use Rattle.dimacs.proofs.state.link.Goals as goal
 
-pub add-requires : goal.add-requires
-add-requires c = (omega (arith, c.requires.0, c.requires.2), c.requires.1)
-
 pub add-requires-2 : goal.add-requires-2
 add-requires-2 c = (omega (arith, c.requires.1, c.requires.2, row_stays _ _ _ c.add.ensures), c.requires.0)
 

@@ -1,16 +1,15 @@
 -- The lowest bad row decides; where there is none, no row reaches n or above, and the lowest row with a one-way link decides.
-use native.Mathlib.Omega.{arith}
 use Rattle.judging.specs.CallLaws.{row_refused, rows_low, edge_refused, edges_accepted}
 use Rattle.judging.proofs.check.check_edges.Goals as goal
 
-pub returns-then-a-n : goal.returns-then-a-n
-returns-then-a-n c = row_refused _ c.lowest_bad_row-a.ensures (omega arith)
+pub returns-in-Some : goal.returns-in-Some
+returns-in-Some c = row_refused _ c.in-Some.ensures
 
-pub lowest_one_way-b-requires : goal.lowest_one_way-b-requires
-lowest_one_way-b-requires c = rows_low _ c.lowest_bad_row-a.ensures c.requires (omega arith)
+pub lowest_one_way-requires : goal.lowest_one_way-requires
+lowest_one_way-requires c = rows_low _ c.in_default.ensures c.requires
 
-pub returns-then-b-n : goal.returns-then-b-n
-returns-then-b-n c = edge_refused _ c.lowest_bad_row-a.ensures c.lowest_one_way-b.ensures (omega arith) (omega arith)
+pub returns-in-Some-lowest_one_way : goal.returns-in-Some-lowest_one_way
+returns-in-Some-lowest_one_way c = edge_refused _ c.in_default.ensures c.in-Some-lowest_one_way.ensures
 
 pub returns : goal.returns
-returns c = edges_accepted _ c.lowest_bad_row-a.ensures c.lowest_one_way-b.ensures (omega arith) (omega arith)
+returns c = edges_accepted _ c.in_default.ensures c.in_default-lowest_one_way.ensures

@@ -1,29 +1,20 @@
 -- The numbers decide first; once they have passed, the edges.
-use mathlib.Core.Path.{◌≡◌, ◌∙◌, sym}
-use lib.ListN.{length}
-use Rattle.sets.specs.Words.{masks}
-use Rattle.judging.specs.Refusal.{first_cause}
-use Rattle.judging.specs.Calls.{number_check, floor_check, passed, checked_reply}
+use mathlib.Core.Path.{◌∙◌, sym}
+use Rattle.judging.specs.Calls.{number_check, floor_check, passed}
 use Rattle.judging.proofs.PassedLaws.{numbers_sized}
-use Rattle.judging.specs.CallLaws.{none_holds, front_refused, front_accepted}
+use Rattle.judging.specs.CallLaws.{handed_on, front_refused, front_accepted}
 use Rattle.judging.proofs.check.check_floor.Goals as goal
 
-pub returns-in-Failed : goal.returns-in-Failed
+pub returns-in_err-check_numbers : goal.returns-in_err-check_numbers
 unfolding floor_check
-returns-in-Failed c =
-    let numbers : checked_reply c.check_numbers-checked.result ≡ first_cause (number_check (length (masks c.args.rows.now)) c.args.slack c.args.floor) passed =
-    rw (← c.count.ensures) c.check_numbers-checked.ensures in
-    front_refused (number_check _ _ _) _ passed numbers c.in-Failed.is
+returns-in_err-check_numbers c =
+    rw (handed_on _ c.from_residual.ensures.1)
+    (front_refused (number_check _ _ _) _ passed _ (rw (← c.count.ensures) c.in_err-check_numbers.ensures))
 
 pub check_edges-requires : goal.check_edges-requires
-check_edges-requires c =
-    let numbers : checked_reply c.check_numbers-checked.result ≡ first_cause (number_check (length (masks c.args.rows.now)) c.args.slack c.args.floor) passed =
-    rw (← c.count.ensures) c.check_numbers-checked.ensures in
-    numbers_sized _ _ _ (none_holds (number_check _ _ _) _ numbers c.in_default.is)
+check_edges-requires c = numbers_sized _ _ _ (sym (rw c.count.ensures at c.in_ok-check_numbers.ensures))
 
 pub returns : goal.returns
 unfolding floor_check
 returns c =
-    let numbers : checked_reply c.check_numbers-checked.result ≡ first_cause (number_check (length (masks c.args.rows.now)) c.args.slack c.args.floor) passed =
-    rw (← c.count.ensures) c.check_numbers-checked.ensures in
-    c.check_edges.ensures ∙ sym (front_accepted (number_check _ _ _) _ passed numbers c.in_default.is)
+    c.check_edges.ensures ∙ sym (front_accepted (number_check _ _ _) _ passed (rw (← c.count.ensures) c.in_ok-check_numbers.ensures))

@@ -7,11 +7,11 @@ use Rattle.judging.proofs.check.check_graph.Goals as goal
 
 pub returns-then-not-rows_accepted : goal.returns-then-not-rows_accepted
 unfolding graph_check vertex_cause
-returns-then-not-rows_accepted c = test_refused _ _ c.rows_accepted.ensures c.if-not-rows_accepted.true-raw
+returns-then-not-rows_accepted c = test_refused _ _ c.rows_accepted.ensures c.if-not-rows_accepted.true
 
 pub check_edges-requires : goal.check_edges-requires
-check_edges-requires c = sized _ (accepted _ _ c.rows_accepted.ensures c.if-not-rows_accepted.false-raw)
+check_edges-requires c = sized _ (accepted _ _ c.rows_accepted.ensures c.if-not-rows_accepted.false)
 
 pub returns : goal.returns
 unfolding graph_check vertex_cause
-returns c = test_accepted _ _ c.rows_accepted.ensures c.if-not-rows_accepted.false-raw c.check_edges.ensures
+returns c = test_accepted _ _ c.rows_accepted.ensures c.if-not-rows_accepted.false c.check_edges.ensures

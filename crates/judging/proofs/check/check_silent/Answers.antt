@@ -1,23 +1,13 @@
 -- The set decides first; once it is within the graph, the edges.
-use native.Mathlib.Omega.{arith}
 use mathlib.Core.Path.{◌∙◌, sym}
-use Rattle.sets.specs.Words.{mask, masks}
+use Rattle.std.proofs.Common.{[], ◌∷◌}
 use Rattle.judging.specs.Refusal.{set_cause}
 use Rattle.judging.specs.Calls.{passed}
-use Rattle.judging.specs.RefusalLaws.{first_holds, first_skips}
-use Rattle.judging.specs.CallLaws.{set-outside, set_inside}
+use Rattle.judging.specs.CallLaws.{handed_on, front_refused, front_accepted}
 use Rattle.judging.proofs.check.check_silent.Goals as goal
 
-pub below-requires : goal.below-requires
-below-requires c = (omega (arith, c.requires.some), omega (arith, c.requires.most))
-
-pub returns-then-not-below : goal.returns-then-not-below
-unfolding set_cause
-returns-then-not-below c =
-    sym (first_holds _ _ passed
-    (set-outside (masks _) (mask _) _ (rw c.count.ensures at c.below.ensures) c.if-not-below.true-raw))
+pub returns-in_err-check_below : goal.returns-in_err-check_below
+returns-in_err-check_below c = rw (handed_on _ c.from_residual.ensures.1) (front_refused (set_cause _ _ ∷ []) _ passed _ c.in_err-check_below.ensures)
 
 pub returns : goal.returns
-returns c =
-    c.check_edges.ensures ∙ sym (first_skips (set_cause _ _) _ passed
-    (set_inside (masks _) (mask _) _ (rw c.count.ensures at c.below.ensures) c.if-not-below.false-raw))
+returns c = c.check_edges.ensures ∙ sym (front_accepted (set_cause _ _ ∷ []) _ passed c.in_ok-check_below.ensures)

@@ -7,19 +7,19 @@ use Rattle.judging.proofs.check.check_slack.Goals as goal
 
 pub returns-then-not-rows_accepted : goal.returns-then-not-rows_accepted
 unfolding slack_check vertex_cause slack_cause
-returns-then-not-rows_accepted c = test_refused _ _ c.rows_accepted.ensures c.if-not-rows_accepted.true-raw
+returns-then-not-rows_accepted c = test_refused _ _ c.rows_accepted.ensures c.if-not-rows_accepted.true
 
 pub returns-then-not-slack_accepted : goal.returns-then-not-slack_accepted
 unfolding slack_check vertex_cause slack_cause
 returns-then-not-slack_accepted c =
-    test_accepted _ _ c.rows_accepted.ensures c.if-not-rows_accepted.false-raw
-    (test_refused _ _ c.slack_accepted.ensures c.if-not-slack_accepted.true-raw)
+    test_accepted _ _ c.rows_accepted.ensures c.if-not-rows_accepted.false
+    (test_refused _ _ c.slack_accepted.ensures c.if-not-slack_accepted.true)
 
 pub check_edges-requires : goal.check_edges-requires
-check_edges-requires c = sized _ (accepted _ _ c.rows_accepted.ensures c.if-not-rows_accepted.false-raw)
+check_edges-requires c = sized _ (accepted _ _ c.rows_accepted.ensures c.if-not-rows_accepted.false)
 
 pub returns : goal.returns
 unfolding slack_check vertex_cause slack_cause
 returns c =
-    test_accepted _ _ c.rows_accepted.ensures c.if-not-rows_accepted.false-raw
-    (test_accepted _ _ c.slack_accepted.ensures c.if-not-slack_accepted.false-raw c.check_edges.ensures)
+    test_accepted _ _ c.rows_accepted.ensures c.if-not-rows_accepted.false
+    (test_accepted _ _ c.slack_accepted.ensures c.if-not-slack_accepted.false c.check_edges.ensures)

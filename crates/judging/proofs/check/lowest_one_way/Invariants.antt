@@ -1,8 +1,8 @@
 -- No row passed has a one-way link, and in the present row each vertex passed has it as a neighbour. A vertex that lacks it ends both loops.
-use Prim.Native.Nat.{ℕ, ◌-◌, ◌≤◌, ◌<◌}
+use Prim.Native.Nat.{ℕ, ◌<◌}
 use mathlib.Core.Path.{◌≡◌}
 use mathlib.Core.Bool.{true, false}
-use lib.ListN.{length}
+use Rattle.std.specs.Prelude.{None}
 use Rattle.sets.specs.Set.{has}
 use Rattle.sets.specs.Graph.{row}
 use Rattle.sets.specs.Words.{mask, masks}
@@ -11,13 +11,10 @@ use Rattle.judging.specs.Refusal.{one_way}
 use Rattle.judging.proofs.check.lowest_one_way.Given as goal
 
 abbrev pub invariant-loop-left : goal.invariant-loop-left
-invariant-loop-left l = Walked (λ (b : ℕ). has (row (masks l.rows) b) l.a ≡ true) (row (masks l.rows) l.a) (mask l.left)
+invariant-loop-left l = (l.found ≡ None) × Walked (λ (b : ℕ). has (row (masks l.rows) b) l.a ≡ true) (row (masks l.rows) l.a) (mask l.left)
 
 abbrev pub decreases-loop-left : goal.decreases-loop-left
 decreases-loop-left l = mask l.left
 
 abbrev pub invariant-rows : goal.invariant-rows
-invariant-rows l = (l.a ≤ length (masks l.rows)) × ((w : ℕ) → w < l.a → one_way (masks l.rows) w ≡ false)
-
-abbrev pub decreases-rows : goal.decreases-rows
-decreases-rows l = length (masks l.rows) - l.a
+invariant-rows l = (l.found ≡ None) × ((w : ℕ) → w < l.a → one_way (masks l.rows) w ≡ false)

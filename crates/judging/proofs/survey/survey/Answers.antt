@@ -2,7 +2,7 @@
 use Prim.Native.Nat.{◌<◌}
 use native.Mathlib.Omega.{arith}
 use Rattle.sets.specs.Words.{mask}
-use Rattle.sets.specs.WalkLaws.{walk_falls, walk_goes_on, walk_over}
+use Rattle.sets.specs.WalkLaws.{walk_falls, empty_fails, empty_holds}
 use Rattle.judging.specs.NarrowLaws.{narrowed_vertex}
 use Rattle.judging.specs.SurveyLaws.{finding_none, finding_same, finding_more, finding_all}
 use Rattle.judging.proofs.survey.survey.Goals as goal
@@ -14,7 +14,7 @@ pub loop-a-init : goal.loop-a-init
 loop-a-init c = rw (c.minus-free.ensures, c.full.ensures, c.count.ensures) (finding_none c.requires.below)
 
 pub lowest-v-requires : goal.lowest-v-requires
-lowest-v-requires c = walk_goes_on c.is_empty.ensures c.loop-a-test.true-raw
+lowest-v-requires c = empty_fails c.is_empty.ensures c.loop-a-test.true
 
 pub rest-left-requires : goal.rest-left-requires
 rest-left-requires c = c.lowest-v.ensures
@@ -46,4 +46,4 @@ loop-a-preserved c =
     c.narrow-free.ensures c.if-most-m.false
 
 pub returns : goal.returns
-returns c = finding_all (walk_over c.is_empty.ensures c.loop-a-test.false-raw) c.loop-a.invariant
+returns c = finding_all (empty_holds c.is_empty.ensures c.loop-a-test.false) c.loop-a.invariant

@@ -2,8 +2,8 @@
 use Rattle.sets.specs.Words.Operations.{word_mask}
 use Rattle.kadvisk.proofs.answer.core.Goals as goal
 
-pub returns-in-Core : goal.returns-in-Core
-returns-in-Core c = rw (c.in-Core.is, ← word_mask c.in-Core.peeled.core, ← c.word.ensures)
+pub returns-in-Ok : goal.returns-in-Ok
+returns-in-Ok c = rw (c.in-Ok.is, ← word_mask c.in-Ok.peeled.core, ← c.word.ensures)
 
-pub returns-in-Refused : goal.returns-in-Refused
-returns-in-Refused c = rw (c.in-Refused.is, c.number-number.ensures, c.value-value.ensures)
+pub returns-in-Err : goal.returns-in-Err
+returns-in-Err c = rw c.in-Err.is c.from.ensures

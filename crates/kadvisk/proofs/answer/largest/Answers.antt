@@ -3,8 +3,8 @@ use mathlib.Core.Path.{refl}
 use Rattle.sets.specs.Words.Operations.{word_mask}
 use Rattle.kadvisk.proofs.answer.largest.Goals as goal
 
-pub returns-in-Found : goal.returns-in-Found
-returns-in-Found c = rw (c.in-Found.is, c.size.ensures.0, ← word_mask c.in-Found.s, ← c.word.ensures) refl
+pub returns-in-Ok : goal.returns-in-Ok
+returns-in-Ok c = rw (c.in-Ok.is, c.size.ensures.0, ← word_mask c.in-Ok.s, ← c.word.ensures) refl
 
-pub returns-in-Refused : goal.returns-in-Refused
-returns-in-Refused c = rw c.in-Refused.is c.refused.ensures
+pub returns-in-Err : goal.returns-in-Err
+returns-in-Err c = rw c.in-Err.is c.from.ensures

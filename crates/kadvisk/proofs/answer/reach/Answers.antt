@@ -2,8 +2,8 @@
 use Rattle.sets.specs.Words.Operations.{word_mask}
 use Rattle.kadvisk.proofs.answer.reach.Goals as goal
 
-pub returns-in-Reach : goal.returns-in-Reach
-returns-in-Reach c = rw (c.in-Reach.is, ← word_mask c.in-Reach.s, ← c.word.ensures) c.found.ensures
+pub returns-in-Ok : goal.returns-in-Ok
+returns-in-Ok c = rw (c.in-Ok.is, ← word_mask c.in-Ok.s, ← c.word.ensures) c.found.ensures
 
-pub returns-in-Refused : goal.returns-in-Refused
-returns-in-Refused c = rw c.in-Refused.is c.refused.ensures
+pub returns-in-Err : goal.returns-in-Err
+returns-in-Err c = rw c.in-Err.is c.from.ensures

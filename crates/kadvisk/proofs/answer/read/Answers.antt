@@ -3,8 +3,8 @@
 use Rattle.sets.specs.Words.Operations.{word_mask}
 use Rattle.kadvisk.proofs.answer.read.Goals as goal
 
-pub returns-in-Read : goal.returns-in-Read
-returns-in-Read c = rw (c.in-Read.is, c.word.ensures, word_mask c.in-Read.request.silent)
+pub returns-in-Ok : goal.returns-in-Ok
+returns-in-Ok c = rw (c.in-Ok.is, c.word.ensures, word_mask c.in-Ok.sheet.request.silent)
 
-pub returns-in-Refused : goal.returns-in-Refused
-returns-in-Refused c = rw (c.in-Refused.is, c.number-number.ensures, c.value-value.ensures)
+pub returns-in-Err : goal.returns-in-Err
+returns-in-Err c = rw c.in-Err.is c.from.ensures

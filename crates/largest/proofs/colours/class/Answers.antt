@@ -1,19 +1,10 @@
 -- The lowest vertex that is left is chosen, and its neighbours are looked at no more: so no two that are chosen are adjacent.
-use Rattle.sets.specs.WalkLaws.{walk_goes_on, walk_over}
+use Rattle.sets.specs.WalkLaws.{empty_holds}
 use Rattle.largest.specs.ColourLaws.{choosing_none, choosing_vertex, choosing_next, choosing_falls, choosing_all}
 use Rattle.largest.proofs.colours.class.Goals as goal
 
 pub loop-left-init : goal.loop-left-init
 loop-left-init c = choosing_none c.empty-chosen.ensures
-
-pub lowest-v-requires : goal.lowest-v-requires
-lowest-v-requires c = walk_goes_on c.is_empty.ensures c.loop-left-test.true-raw
-
-pub with-chosen-requires : goal.with-chosen-requires
-with-chosen-requires c = c.lowest-v.ensures.fits
-
-pub rest-requires : goal.rest-requires
-rest-requires c = c.lowest-v.ensures
 
 pub get-requires : goal.get-requires
 get-requires c = choosing_vertex c.requires c.loop-left.invariant c.lowest-v.ensures
@@ -27,4 +18,4 @@ loop-left-preserved c =
     c.with-chosen.ensures c.rest.ensures c.get.ensures c.minus-left.ensures
 
 pub returns : goal.returns
-returns c = choosing_all (walk_over c.is_empty.ensures c.loop-left-test.false-raw) c.loop-left.invariant
+returns c = choosing_all (empty_holds c.is_empty.ensures c.loop-left-test.false) c.loop-left.invariant

@@ -1,22 +1,9 @@
 -- The best so far is always a member: the lowest at first, and later one that was looked at.
 use Rattle.std.specs.Prelude.{◌<◌}
 use Rattle.sets.specs.Words.{mask}
-use Rattle.sets.specs.SubsetLaws.{sub_refl}
-use Rattle.sets.specs.WalkLaws.{walk_falls, walk_below, walk_goes_on}
+use Rattle.sets.specs.WalkLaws.{walk_falls, walk_below}
 use Rattle.search.specs.ChoiceLaws.{choosing_same, choosing_more}
 use Rattle.search.proofs.choice.farthest.Goals as goal
-
-pub lowest-best-requires : goal.lowest-best-requires
-lowest-best-requires c = c.requires.some
-
-pub loop-a-init : goal.loop-a-init
-loop-a-init c = record { member = c.lowest-best.ensures.member; part = sub_refl _ }
-
-pub lowest-v-requires : goal.lowest-v-requires
-lowest-v-requires c = walk_goes_on c.is_empty.ensures c.loop-a-test.true-raw
-
-pub rest-left-requires : goal.rest-left-requires
-rest-left-requires c = c.lowest-v.ensures
 
 pub missing-m-requires : goal.missing-m-requires
 missing-m-requires c = walk_below c.requires.below c.loop-a.invariant.part c.lowest-v.ensures
@@ -36,6 +23,3 @@ loop-a-smaller c =
 
 pub loop-a-preserved : goal.loop-a-preserved
 loop-a-preserved c = choosing_same c.loop-a.invariant c.lowest-v.ensures c.rest-left.ensures
-
-pub returns : goal.returns
-returns c = c.loop-a.invariant.member

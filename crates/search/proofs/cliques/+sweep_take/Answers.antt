@@ -1,142 +1,87 @@
--- A sweep adds what each vertex to take adds in turn. A clique adds nothing where too few candidates are left, what the search without a floor adds where any
--- candidate is enough, and else what its end with two candidates or a sweep over the candidates of a pivot adds. The measure is the candidates, which fall
--- when a vertex is taken.
-use Rattle.std.specs.Prelude.{◌≡◌, ◌+◌, ◌^◌, ◌<◌, ◌≤◌, ◌≢◌, length}
+-- A sweep adds what each vertex to take adds in turn. A clique adds what its end adds where at most two candidates are left or no more is wanted, and else
+-- what a sweep over the candidates of a pivot adds. The measure is the candidates, which fall when a vertex is taken.
+use Rattle.std.specs.Prelude.{◌≡◌, ℕ, ◌^◌, ◌≢◌}
 use mathlib.Core.Path.{refl, ◌∙◌}
 use native.Mathlib.Omega.{arith}
-use lib.Bits.{bit_and}
-use Rattle.sets.specs.Set.{size, with, minus}
+use Rattle.sets.specs.Set.{bit, with}
 use Rattle.sets.specs.Words.{mask, masks}
-use Rattle.sets.specs.BitLaws.{bit_le}
-use Rattle.sets.specs.WalkLaws.{walk_falls, walk_goes_on, walk_over, empty_holds}
-use Rattle.search.specs.Cliques.{needing}
-use Rattle.search.specs.SweepLaws.{sweep_vertex, Step, step, step_taking, swept_none, swept_falls, swept_more, swept_all}
-use Rattle.search.specs.TakeLaws.{take_pickable, take_same, take_adds, cover_candidates, cover_sweeping, cover_adds}
+use Rattle.sets.specs.WalkLaws.{walk_falls, empty_holds}
+use Rattle.judging.specs.Request.{request}
+use Rattle.search.specs.CliqueLaws.{common_out}
+use Rattle.search.specs.SweepLaws.{sweep_near, sweep_vertex, Step, step, step_taking, swept_falls, swept_more, swept_all}
+use Rattle.search.specs.TakeLaws.{take_pickable, take_same, cover_candidates, cover_sweeping, cover_adds}
 use Rattle.search.specs.EndLaws.{two_left}
-use Rattle.search.specs.FloorLaws.{need_few, need_enough, step_adds, some_candidate, second_candidate}
+use Rattle.search.specs.FloorLaws.{some_candidate, second_candidate}
 use Rattle.search.proofs.cliques.+sweep_take.Goals as goal
+use Rattle.search.proofs.cliques.+sweep_take.Goals.{sweep-After-with-waiting, take-Then-is_empty}
 
-pub sweep-loop-silent-init : goal.sweep-loop-silent-init
-sweep-loop-silent-init t c = (swept_none _ refl c.requires.0 _ _, refl)
+-- ---- the sweep
 
-pub sweep-lowest-v-requires : goal.sweep-lowest-v-requires
-sweep-lowest-v-requires t c = walk_goes_on c.is_empty.ensures c.loop-silent-test.true-raw
+-- the step to the vertex that is taken
+moved : (g : _) (t : ℕ) (c : sweep-After-with-waiting g t) → Step (masks c.args.rows.now) (mask c.args.s) (mask c.loop-want.waiting) (mask c.args.m)
+    (mask c.loop-want.left) c.lowest-v.result (mask c.with-joined.result) (mask c.meet-inside.result) (mask c.meet-beside.result)
+    (mask c.with-waiting.result) (mask c.rest-left.result)
+moved g t c =
+    step c.lowest-v.ensures c.get-row.ensures c.with-joined.ensures c.meet-inside.ensures c.meet-beside.ensures c.rest-left.ensures c.with-waiting.ensures
 
 pub sweep-get-row-requires : goal.sweep-get-row-requires
-sweep-get-row-requires t c =
-    let vertex : c.lowest-v.result < length (masks c.args.rows.now) = sweep_vertex c.loop-silent.invariant.0.sweeping _ c.lowest-v.ensures.member in
-    vertex
+sweep-get-row-requires g t c = sweep_vertex c.loop-want.invariant.swept.sweeping _ c.lowest-v.ensures.member
 
-pub sweep-with-joined-requires : goal.sweep-with-joined-requires
-sweep-with-joined-requires t c =
-    let vertex : c.lowest-v.result < length (masks c.args.rows.now) = sweep_vertex c.loop-silent.invariant.0.sweeping _ c.lowest-v.ensures.member in
-    omega (arith, vertex, c.requires.0.taking.most)
+pub sweep-take-requires : goal.sweep-take-requires
+sweep-take-requires g t c =
+    let ask = request 1 (g.W.Wanted.least c.args.want (mask c.args.s)) (g.W.Wanted.silent c.args.want) in
+    let way = moved g t (goal.at.sweep-take-requires g t c).After-with-waiting in
+    λ κs h. (omega (arith, swept_falls {ask = ask} c.loop-want.invariant.swept way, c.decreases), (h, step_taking c.loop-want.invariant.swept.sweeping way))
 
-pub sweep-rest-left-requires : goal.sweep-rest-left-requires
-sweep-rest-left-requires t c = c.lowest-v.ensures
+pub sweep-loop-want-smaller : goal.sweep-loop-want-smaller
+sweep-loop-want-smaller g t c = walk_falls c.lowest-v.ensures c.rest-left.ensures
 
-pub sweep-with-waiting-requires : goal.sweep-with-waiting-requires
-sweep-with-waiting-requires t c =
-    let vertex : c.lowest-v.result < length (masks c.args.rows.now) = sweep_vertex c.loop-silent.invariant.0.sweeping _ c.lowest-v.ensures.member in
-    omega (arith, vertex, c.requires.0.taking.most)
+pub sweep-loop-want-preserved : goal.sweep-loop-want-preserved
+sweep-loop-want-preserved g t c =
+    let way = moved g t (goal.at.sweep-loop-want-preserved g t c).After-with-waiting in
+    let out : bit (mask c.args.s) c.lowest-v.result ≡ 0 =
+    common_out c.requires.0.taking.valid c.requires.0.taking.common _ (sweep_near c.loop-want.invariant.swept.sweeping _ c.lowest-v.ensures.member) in
+    let least : g.W.Wanted.least c.after.result (mask c.with-joined.result) ≡ g.W.Wanted.least c.args.want (mask c.args.s) =
+    rw c.with-joined.ensures (c.after.ensures.1 (mask c.args.s) out) in
+    record {
+      swept = swept_more c.loop-want.invariant.swept way (rw (least, c.after.ensures.0) at c.take.ensures.fills);
+      same = c.take.ensures.same ∙ c.loop-want.invariant.same;
+    }
 
-pub sweep-overflow_sub-fewer : goal.sweep-overflow_sub-fewer
-sweep-overflow_sub-fewer t c = c.requires.1
+pub sweep-returns-clause-fills : goal.sweep-returns-clause-fills
+sweep-returns-clause-fills g t c = swept_all c.loop-want.invariant.swept (empty_holds c.is_empty.ensures c.loop-want-test.false)
 
-pub sweep-indicator-requires : goal.sweep-indicator-requires
-sweep-indicator-requires t c =
-    let vertex : c.lowest-v.result < length (masks c.args.rows.now) = sweep_vertex c.loop-silent.invariant.0.sweeping _ c.lowest-v.ensures.member in
-    omega (arith, vertex, c.requires.0.taking.most)
-
-pub sweep-overflow_add-fewer : goal.sweep-overflow_add-fewer
-sweep-overflow_add-fewer t c = omega (arith, c.ranges.need, c.requires.1, c.indicator.ensures, bit_le (mask c.args.silent) c.lowest-v.result)
-
-pub sweep-take-n-requires : goal.sweep-take-n-requires
-sweep-take-n-requires t c =
-    let moved : Step (masks c.args.rows.now) (mask c.args.s) (mask c.loop-silent.waiting) (mask c.args.m) (mask c.loop-silent.left)
-    c.lowest-v.result (mask c.with-joined.result) (mask c.meet-inside.result)
-    (mask c.meet-beside.result) (mask c.with-waiting.result) (mask c.rest-left.result) = step c.lowest-v.ensures c.get-row.ensures c.with-joined.ensures
-    c.meet-inside.ensures c.meet-beside.ensures c.rest-left.ensures c.with-waiting.ensures in
-    (omega (arith, swept_falls c.loop-silent.invariant.0 moved, c.decreases), step_taking c.loop-silent.invariant.0.sweeping moved)
-
-pub sweep-loop-silent-smaller : goal.sweep-loop-silent-smaller
-sweep-loop-silent-smaller t c = walk_falls c.lowest-v.ensures c.rest-left.ensures
-
-pub sweep-loop-silent-preserved : goal.sweep-loop-silent-preserved
-sweep-loop-silent-preserved t c =
-    let moved : Step (masks c.args.rows.now) (mask c.args.s) (mask c.loop-silent.waiting) (mask c.args.m) (mask c.loop-silent.left)
-    c.lowest-v.result (mask c.with-joined.result) (mask c.meet-inside.result)
-    (mask c.meet-beside.result) (mask c.with-waiting.result) (mask c.rest-left.result) = step c.lowest-v.ensures c.get-row.ensures c.with-joined.ensures
-    c.meet-inside.ensures c.meet-beside.ensures c.rest-left.ensures c.with-waiting.ensures in (
-      swept_more c.loop-silent.invariant.0 moved
-          (step_adds c.loop-silent.invariant.0.sweeping moved _ _ c.requires.1 c.indicator.ensures refl c.take-n.ensures),
-      c.take-n.auto.slots ∙ c.loop-silent.invariant.1,
-    )
-
-pub sweep-shape_of-slots : goal.sweep-shape_of-slots
-sweep-shape_of-slots t c = c.loop-silent.invariant.1
-
-pub sweep-returns : goal.sweep-returns
-sweep-returns t c = swept_all c.loop-silent.invariant.0 (walk_over c.is_empty.ensures c.loop-silent-test.false-raw)
-
-pub take-returns-then-is_few : goal.take-returns-then-is_few
-take-returns-then-is_few t c = need_few c.requires _ _ (c.is_few.ensures.0 c.if-is_few.true) _ _
-
-pub take-start-requires : goal.take-start-requires
-take-start-requires t c = c.requires
-
-pub take-returns-then-is_enough : goal.take-returns-then-is_enough
-take-returns-then-is_enough t c =
-    need_enough c.requires _ _ (c.is_few.ensures.1 c.if-is_few.false)
-    (c.is_enough.ensures.0 c.if-is_enough.true) c.start.ensures
-
-pub take-lowest-u-requires : goal.take-lowest-u-requires
-take-lowest-u-requires t c =
-    let left : c.args.need ≤ size (minus (mask c.args.c) (mask c.args.silent)) = c.is_few.ensures.1 c.if-is_few.false in
-    let wanting : (1 ≤ c.args.need) × (2 ≤ c.args.need + size (bit_and (mask c.args.c) (mask c.args.silent))) = c.is_enough.ensures.1 c.if-is_enough.false in
-    some_candidate _ _ _ left wanting.1
-
-pub take-rest-second-requires : goal.take-rest-second-requires
-take-rest-second-requires t c = c.lowest-u.ensures
+-- ---- a clique
 
 pub take-lowest-v-requires : goal.take-lowest-v-requires
-take-lowest-v-requires t c =
-    let left : c.args.need ≤ size (minus (mask c.args.c) (mask c.args.silent)) = c.is_few.ensures.1 c.if-is_few.false in
-    let wanting : (1 ≤ c.args.need) × (2 ≤ c.args.need + size (bit_and (mask c.args.c) (mask c.args.silent))) = c.is_enough.ensures.1 c.if-is_enough.false in
-    second_candidate _ _ _ left wanting.1 c.lowest-u.ensures c.rest-second.ensures
+take-lowest-v-requires g t c = second_candidate (c.settle.ensures.left c.if-settle.false).2 c.lowest-u.ensures c.rest-second.ensures
 
-pub take-rest-requires : goal.take-rest-requires
-take-rest-requires t c = c.lowest-v.ensures
+two : (g : _) (t : ℕ) (c : take-Then-is_empty g t) → (mask c.args.c ≡ with (2 ^ c.lowest-u.result) c.lowest-v.result) × (c.lowest-u.result ≢ c.lowest-v.result)
+two g t c =
+    two_left c.lowest-u.ensures c.rest-second.ensures c.lowest-v.ensures c.rest.ensures (empty_holds c.is_empty.ensures c.if-is_empty.true)
 
 pub take-end_pair-requires : goal.take-end_pair-requires
-take-end_pair-requires t c =
-    let two : (mask c.args.c ≡ with (2 ^ c.lowest-u.result) c.lowest-v.result) × (c.lowest-u.result ≢ c.lowest-v.result) = two_left c.lowest-u.ensures
-    c.rest-second.ensures c.lowest-v.ensures c.rest.ensures
-    (empty_holds c.is_empty.ensures c.if-is_empty.true) in
-    let left : c.args.need ≤ size (minus (mask c.args.c) (mask c.args.silent)) = c.is_few.ensures.1 c.if-is_few.false in
-    (take_same c.requires two.0, two.1, rw two.0 at left)
+take-end_pair-requires g t c =
+    let pair = two g t (goal.at.take-end_pair-requires g t c).Then-is_empty in
+    (take_same c.requires pair.0, pair.1, rw pair.0 at (c.settle.ensures.left c.if-settle.false).3)
 
-pub take-returns-then-is_empty : goal.take-returns-then-is_empty
-take-returns-then-is_empty t c =
-    let two : (mask c.args.c ≡ with (2 ^ c.lowest-u.result) c.lowest-v.result) × (c.lowest-u.result ≢ c.lowest-v.result) = two_left c.lowest-u.ensures
-    c.rest-second.ensures c.lowest-v.ensures c.rest.ensures
-    (empty_holds c.is_empty.ensures c.if-is_empty.true) in
-    take_adds c.requires (needing (mask c.args.silent) c.args.need (mask c.args.s)) two.0 c.end_pair.ensures
+pub take-returns-then-is_empty-clause-fills : goal.take-returns-then-is_empty-clause-fills
+take-returns-then-is_empty-clause-fills g t c =
+    let pair = two g t (goal.at.take-returns-then-is_empty-clause-fills g t c).Then-is_empty in
+    rw pair.0 (rw (c.settle.ensures.left c.if-settle.false).0 at c.end_pair.ensures.fills)
 
 -- more than two are left
-pub take-agenda-next-requires : goal.take-agenda-next-requires
-take-agenda-next-requires t c =
-    let left : c.args.need ≤ size (minus (mask c.args.c) (mask c.args.silent)) = c.is_few.ensures.1 c.if-is_few.false in
-    let wanting : (1 ≤ c.args.need) × (2 ≤ c.args.need + size (bit_and (mask c.args.c) (mask c.args.silent))) = c.is_enough.ensures.1 c.if-is_enough.false in
-    take_pickable c.requires (some_candidate _ _ _ left wanting.1)
+pub take-pivot-next-requires : goal.take-pivot-next-requires
+take-pivot-next-requires g t c = take_pickable c.requires (some_candidate (c.settle.ensures.left c.if-settle.false).2)
 
 pub take-sweep-requires : goal.take-sweep-requires
-take-sweep-requires t c =
-    let wanting : (1 ≤ c.args.need) × (2 ≤ c.args.need + size (bit_and (mask c.args.c) (mask c.args.silent))) = c.is_enough.ensures.1 c.if-is_enough.false in (
-      omega (arith, cover_candidates c.requires c.agenda-next.ensures c.minus-others.ensures, c.decreases),
-      (cover_sweeping c.requires c.agenda-next.ensures c.minus-others.ensures, wanting.0),
-    )
+take-sweep-requires g t c κs h = (
+  omega (arith, cover_candidates c.requires c.pivot-next.ensures c.minus-others.ensures, c.decreases),
+  (h, (cover_sweeping c.requires c.pivot-next.ensures c.minus-others.ensures, (c.settle.ensures.left c.if-settle.false).1)),
+)
 
-pub take-returns : goal.take-returns
-take-returns t c =
-    cover_adds c.requires c.agenda-next.ensures c.minus-others.ensures (needing (mask c.args.silent) c.args.need (mask c.args.s)) refl c.sweep.ensures
+pub take-returns-clause-fills : goal.take-returns-clause-fills
+take-returns-clause-fills g t c =
+    cover_adds c.requires c.pivot-next.ensures c.minus-others.ensures
+    (request 1 (g.W.Wanted.least c.args.want (mask c.args.s)) (g.W.Wanted.silent c.args.want)) refl
+    (rw (c.settle.ensures.left c.if-settle.false).0 at c.sweep.ensures.fills)

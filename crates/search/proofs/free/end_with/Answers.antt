@@ -12,7 +12,7 @@ get-requires c = one_vertex _ c.requires
 pub with-requires : goal.with-requires
 with-requires c = omega (arith, one_vertex _ c.requires, c.requires.most)
 
-pub returns : goal.returns
-returns c =
+pub returns-clause-fills : goal.returns-clause-fills
+returns-clause-fills c =
     let grown = joined c.with.ensures c.get.ensures c.meet-beside.ensures in
-    one_adds _ c.requires grown (request 1 0 0) refl (c.end.ensures _ (one_taking _ c.requires grown))
+    one_adds _ c.requires grown (request 1 0 0) refl (c.end.ensures.fills _ (one_taking _ c.requires grown))

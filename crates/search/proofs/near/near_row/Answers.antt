@@ -4,12 +4,12 @@ use Rattle.sets.specs.SizeLaws.{and_below}
 use Rattle.search.specs.NearRows.{near_row}
 use Rattle.search.proofs.near.near_row.Goals as goal
 
-pub pair_row-requires : goal.pair_row-requires
-pair_row-requires c = (c.requires.0.pairable, rw c.meet.ensures (and_below _ _ _ c.requires.0.below), c.requires.1)
+pub row-requires : goal.row-requires
+row-requires c = (rw c.meet.ensures (and_below _ _ _ c.requires.0.below), c.requires.1)
 
 pub returns-then-pairs : goal.returns-then-pairs
 unfolding near_row
-returns-then-pairs c = rw (c.if-pairs.true, sym c.reach_row-within.ensures, sym c.meet.ensures) c.pair_row.ensures
+returns-then-pairs c = rw (c.if-pairs.true, sym c.reach_row-within.ensures, sym c.meet.ensures) c.row.ensures
 
 pub returns : goal.returns
 unfolding near_row

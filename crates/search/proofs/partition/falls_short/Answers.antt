@@ -14,28 +14,28 @@ returns-then-n-q c e = short_all _ _ _ _ _ _ c.size-n.ensures.0 c.if-n-q.true
 pub loop-s-init : goal.loop-s-init
 loop-s-init c = bounding_none c.size-n.ensures.0 c.if-n-q.false c.requires.part
 
-pub pick-p-requires : goal.pick-p-requires
-pick-p-requires c = left_below c.loop-s.invariant c.requires
+pub pick-requires : goal.pick-requires
+pick-requires c = left_below c.loop-s.invariant c.requires
 
-pub returns-then-p-k : goal.returns-then-p-k
-returns-then-p-k c e = absurd (false≢true e)
+pub returns-in_default : goal.returns-in_default
+returns-in_default c e = absurd (false≢true e)
 
 pub overflow_sub-over : goal.overflow_sub-over
-overflow_sub-over c = omega (arith, c.if-p-k.false)
+overflow_sub-over c = omega (arith, c.in-Some.ensures.0)
 
 pub returns-then-room-over : goal.returns-then-room-over
-returns-then-room-over c e = short_off c.loop-s.invariant c.pick-p.ensures c.if-p-k.false c.if-room-over.true
+returns-then-room-over c e = short_off c.loop-s.invariant c.in-Some.ensures.1 c.in-Some.ensures.0 c.if-room-over.true
 
 pub get-requires : goal.get-requires
-get-requires c = best_below c.loop-s.invariant c.pick-p.ensures c.if-p-k.false c.requires
+get-requires c = best_below c.loop-s.invariant c.in-Some.ensures.1 c.in-Some.ensures.0 c.requires
 
 pub loop-s-smaller : goal.loop-s-smaller
-loop-s-smaller c = left_falls c.pick-p.ensures c.if-p-k.false
+loop-s-smaller c = left_falls c.in-Some.ensures.1 c.in-Some.ensures.0
 
 pub loop-s-preserved : goal.loop-s-preserved
 loop-s-preserved c =
     let joined = c.join.ensures ∙ ap (λ (x : ℕ). bit_or x (mask c.args.s)) c.get.ensures in
-    bounding_more c.loop-s.invariant c.pick-p.ensures c.if-p-k.false c.if-room-over.false
+    bounding_more c.loop-s.invariant c.in-Some.ensures.1 c.in-Some.ensures.0 c.if-room-over.false
     (c.meet-r.ensures ∙ ap (bit_and (mask c.loop-s.r)) joined)
 
 pub returns : goal.returns

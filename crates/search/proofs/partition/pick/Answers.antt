@@ -1,7 +1,8 @@
 -- Each member passed is dropped or kept, and best is the one passed that misses most, if that is more than k.
+use native.Mathlib.Omega.{arith}
 use Rattle.std.specs.Prelude.{◌<◌}
 use Rattle.sets.specs.Words.{mask}
-use Rattle.sets.specs.WalkLaws.{walk_falls, walk_below, walk_goes_on}
+use Rattle.sets.specs.WalkLaws.{walk_falls, walk_below, empty_fails}
 use Rattle.search.specs.PartitionLaws.{picking_none, picking_same, picking_more, picking_all}
 use Rattle.search.proofs.partition.pick.Goals as goal
 
@@ -9,7 +10,7 @@ pub loop-r-init : goal.loop-r-init
 loop-r-init c = picking_none c.empty-kept.ensures
 
 pub lowest-u-requires : goal.lowest-u-requires
-lowest-u-requires c = walk_goes_on c.is_empty.ensures c.loop-r-test.true-raw
+lowest-u-requires c = empty_fails c.is_empty.ensures c.loop-r-test.true
 
 pub rest-todo-requires : goal.rest-todo-requires
 rest-todo-requires c = c.lowest-u.ensures
@@ -36,8 +37,8 @@ loop-r-smaller c =
 pub loop-r-preserved : goal.loop-r-preserved
 loop-r-preserved c = picking_same c.loop-r.invariant c.lowest-u.ensures c.rest-todo.ensures c.keep-kept.ensures
 
-pub without-others-requires : goal.without-others-requires
-without-others-requires c = c.loop-r.invariant.fits
+pub without-left-requires : goal.without-left-requires
+without-left-requires c = c.loop-r.invariant.fits
 
 pub returns : goal.returns
-returns c = picking_all c.loop-r.invariant c.without-others.ensures
+returns c = (omega (arith, c.if-most-k.false), picking_all c.loop-r.invariant c.without-left.ensures)

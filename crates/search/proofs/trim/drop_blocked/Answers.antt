@@ -4,7 +4,7 @@ use native.Mathlib.Omega.{arith}
 use mathlib.Core.Path.{ap, ◌∙◌}
 use lib.Bits.{bit_and}
 use Rattle.sets.specs.Words.{mask}
-use Rattle.sets.specs.WalkLaws.{walk_falls, walk_goes_on, walk_over}
+use Rattle.sets.specs.WalkLaws.{walk_falls, empty_fails, empty_holds}
 use Rattle.judging.specs.NarrowLaws.{narrowed_vertex, narrowed_same, narrowed_more}
 use Rattle.search.specs.TrimLaws.{drops_blocked_none, drops_blocked_all}
 use Rattle.search.proofs.trim.drop_blocked.Goals as goal
@@ -16,7 +16,7 @@ pub loop-s-init : goal.loop-s-init
 loop-s-init c = rw (c.minus-left.ensures, c.get.ensures) (drops_blocked_none c.requires)
 
 pub lowest-u-requires : goal.lowest-u-requires
-lowest-u-requires c = walk_goes_on c.is_empty.ensures c.loop-s-test.true-raw
+lowest-u-requires c = empty_fails c.is_empty.ensures c.loop-s-test.true
 
 pub rest-left-requires : goal.rest-left-requires
 rest-left-requires c = c.lowest-u.ensures
@@ -46,4 +46,4 @@ pub loop-s-preserved : goal.loop-s-preserved
 loop-s-preserved c = narrowed_same c.loop-s.invariant c.lowest-u.ensures c.rest-left.ensures (omega arith)
 
 pub returns : goal.returns
-returns c = drops_blocked_all c.requires (walk_over c.is_empty.ensures c.loop-s-test.false-raw) c.loop-s.invariant
+returns c = drops_blocked_all c.requires (empty_holds c.is_empty.ensures c.loop-s-test.false) c.loop-s.invariant

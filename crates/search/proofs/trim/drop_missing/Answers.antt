@@ -1,7 +1,7 @@
 -- Of the candidates that v is not adjacent to those are dropped that miss k or more of s: no plex that holds s has such a one.
 use mathlib.Core.Path.{ap}
 use Rattle.std.specs.Prelude.{leb}
-use Rattle.sets.specs.WalkLaws.{walk_falls, walk_goes_on, walk_over}
+use Rattle.sets.specs.WalkLaws.{walk_falls, empty_fails, empty_holds}
 use Rattle.sets.specs.DropLaws.{dropping_vertex, dropping_next}
 use Rattle.search.specs.TrimLaws.{drops_missing_none, drops_missing_all}
 use Rattle.search.proofs.trim.drop_missing.Goals as goal
@@ -13,7 +13,7 @@ pub loop-s-init : goal.loop-s-init
 loop-s-init c = rw (c.minus-left.ensures, c.get.ensures) (drops_missing_none c.requires _)
 
 pub lowest-w-requires : goal.lowest-w-requires
-lowest-w-requires c = walk_goes_on c.is_empty.ensures c.loop-s-test.true-raw
+lowest-w-requires c = empty_fails c.is_empty.ensures c.loop-s-test.true
 
 pub rest-left-requires : goal.rest-left-requires
 rest-left-requires c = c.lowest-w.ensures
@@ -31,4 +31,4 @@ pub loop-s-preserved : goal.loop-s-preserved
 loop-s-preserved c = dropping_next c.loop-s.invariant c.lowest-w.ensures _ c.rest-left.ensures (ap (leb _) c.missing-m.ensures.0) c.without_if-kept.ensures
 
 pub returns : goal.returns
-returns c = drops_missing_all c.requires _ (walk_over c.is_empty.ensures c.loop-s-test.false-raw) c.loop-s.invariant
+returns c = drops_missing_all c.requires _ (empty_holds c.is_empty.ensures c.loop-s-test.false) c.loop-s.invariant

@@ -9,8 +9,11 @@ returns-then-few-eq0 c ask same counted beside = beside
 pub with-requires : goal.with-requires
 with-requires c = omega (arith, c.requires.trimmable.vertex, c.requires.trimmable.most)
 
-pub pair_row-requires : goal.pair_row-requires
-pair_row-requires c = (sift_pairable c.requires c.with.ensures c.join-all.ensures, sift_below c.requires, c.requires.trimmable.vertex)
+pub invariant_of-closeness : goal.invariant_of-closeness
+invariant_of-closeness c = record { pairable = sift_pairable c.requires c.with.ensures c.join-core.ensures }
+
+pub row-requires : goal.row-requires
+row-requires c = (sift_below c.requires, c.requires.trimmable.vertex)
 
 pub returns : goal.returns
-returns c ask same counted beside = sift_beside c.requires c.with.ensures c.join-all.ensures c.pair_row.ensures same counted beside
+returns c ask same counted beside = sift_beside c.requires c.with.ensures c.join-core.ensures c.row.ensures same counted beside

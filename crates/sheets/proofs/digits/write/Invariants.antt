@@ -4,6 +4,3 @@ use Rattle.sheets.proofs.digits.write.Given as goal
 
 abbrev pub invariant-loop-left : goal.invariant-loop-left
 invariant-loop-left l = Filling l.x l.initial.text l.text l.left l.high
-
-abbrev pub decreases-loop-left : goal.decreases-loop-left
-decreases-loop-left l = l.left

@@ -1,9 +1,0 @@
--- The loop ends, since each turn leaves fewer masks, and there stay as many.
-use Rattle.std.proofs.Common.{◌≡◌, ◌≤◌, length}
-use Rattle.trials.proofs.change_edges.all_but_one.Given as goal
-
-abbrev pub invariant-loop-i : goal.invariant-loop-i
-invariant-loop-i l = (length l.masks ≡ length l.initial.masks) × (l.i ≤ length l.initial.masks)
-
-abbrev pub decreases-loop-i : goal.decreases-loop-i
-decreases-loop-i l = l.i

@@ -1,9 +1,0 @@
--- The loop ends, since each turn leaves fewer sets, and there stay as many words.
-use Rattle.std.proofs.Common.{◌≡◌, ◌-◌, length}
-use Rattle.trials.proofs.words.copy.Given as goal
-
-abbrev pub invariant-loop-i : goal.invariant-loop-i
-invariant-loop-i l = length l.words ≡ length l.initial.words
-
-abbrev pub decreases-loop-i : goal.decreases-loop-i
-decreases-loop-i l = l.n - l.i

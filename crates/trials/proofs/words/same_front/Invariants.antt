@@ -1,6 +1,0 @@
--- The loop ends, since each turn leaves fewer sets.
-use Rattle.std.proofs.Common.{◌-◌}
-use Rattle.trials.proofs.words.same_front.Given as goal
-
-abbrev pub decreases-loop-i : goal.decreases-loop-i
-decreases-loop-i l = l.m - l.i
