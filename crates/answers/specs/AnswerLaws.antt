@@ -1,5 +1,5 @@
 -- From what was read, listed and written to the answer of the definitions.
-use Rattle.std.specs.Prelude.{ℕ, ◌*◌, ◌≤◌, refl, length, take, drop, Ok, Err}
+use Rattle.std.specs.Prelude.{ℕ, ◌*◌, ◌≤◌, refl, length, take, drop, Result, Ok}
 use Rattle.std.proofs.Common.{arith, sym, ◌∙◌, length-append}
 use Rattle.std.proofs.Math.Path.{◌≡◌, ap, subst}
 use mathlib.Core.List.{List}
@@ -11,7 +11,7 @@ use Rattle.judging.specs.Calls.{refusal, number_of, value_of}
 use Rattle.judging.specs.declared.Refusal.{Refusal}
 use Rattle.sheets.specs.Sheet.{Sheet, reading, rows_after}
 use Rattle.sheets.specs.OverLaws.{over_fits, over_front}
-use Rattle.sheets.specs.Calls.{Heading, heading, heading_of, ReadSheet}
+use Rattle.sheets.specs.Calls.{Heading, heading, heading_of, read_reply, ReadSheet}
 use Rattle.sheets.specs.declared.Sheet as code
 use Rattle.lists.specs.Listing.{listing}
 use Rattle.search.specs.Calls.{Lists}
@@ -61,16 +61,23 @@ module _ {g : List ℕ} {ask : Request} {before : List ℕ} {m : ℕ} (ws : List
 
 -- ---- the sheet that was read
 
--- a row was lent for each vertex: reading the text t gave n and the request, and its rows are the first n of those words
-module _ {t : List ℕ} {s : code.Sheet} {rest : List ℕ} (ws : List ℕ) (room : length rest ≡ most_vertices) (h : ReadSheet t rest (masks ws) (Ok s)) where
-  abbrev n : ℕ
-  n = s.vertices
+-- reading the text t gave n and the request, and its rows are the first n of those that were lent
+pub record GaveSheet (t : List ℕ) (n : ℕ) (ask : Request) (rest ws : List ℕ) : Type 0 where
+  pub reply : answered 0 (heading n ask) ≡ heading_of (reading t most_vertices)
+  pub rows : masks ws ≡ rows_after (reading t most_vertices) rest
 
-  abbrev ask : Request
-  ask = asked s.request
+-- a row was lent for each vertex
+pub read_whole : {t rest after : List ℕ} {r : Result code.Sheet Refusal} → length rest ≡ most_vertices → ReadSheet t rest after r
+    → read_reply r ≡ heading_of (reading t most_vertices)
+read_whole room h = rw room at h.reply
 
-  pub rows_fit : s.vertices ≤ length (masks ws)
-  rows_fit = go (reading t (length rest)) h.reply h.rows
+pub gave_sheet : {t : List ℕ} {s : code.Sheet} {rest : List ℕ} (ws : List ℕ) → length rest ≡ most_vertices → ReadSheet t rest (masks ws) (Ok s)
+    → GaveSheet t s.vertices (asked s.request) rest ws
+gave_sheet ws room h = record { reply = read_whole room h; rows = rw room at h.rows }
+
+module _ {t : List ℕ} {n : ℕ} {ask : Request} {rest ws : List ℕ} (h : GaveSheet t n ask rest ws) where
+  pub rows_fit : n ≤ length (masks ws)
+  rows_fit = go (reading t most_vertices) h.reply h.rows
     where
       go : (x : Reply Sheet) → answered 0 (heading n ask) ≡ heading_of x → masks ws ≡ rows_after x rest → n ≤ length (masks ws)
       go (refused c v) z y = let w : ◌≡◌ {A = ℕ} 0 1 = cc in absurd (omega arith)
@@ -78,11 +85,11 @@ module _ {t : List ℕ} {s : code.Sheet} {rest : List ℕ} (ws : List ℕ) (room
           let same : heading n ask ≡ heading (length s.rows) s.request = cc in
           omega (arith, ap (λ (x : Heading). x.vertices) same, ap length y, over_fits s.rows rest)
 
-  pub answer_listed : {end : ℕ} {before after old out : List ℕ} {r : ℕ} → end ≡ s.vertices * per_set
-      → WritesList (masks (take end ws)) (asked s.request) before after old out r → Answers t before after old out r
+  pub answer_listed : {end : ℕ} {before after old out : List ℕ} {r : ℕ} → end ≡ n * per_set → WritesList (masks (take end ws)) ask before after old out r
+      → Answers t before after old out r
   unfolding answer_text slots_left
   answer_listed {end} {before} {after} {old} {out} {r} at w =
-      let a = rw room at (go (reading t (length rest)) h.reply h.rows) in
+      let a = go (reading t most_vertices) h.reply h.rows in
       record { written = a.0; slots = a.1 }
     where
       go : (x : Reply Sheet) → answered 0 (heading n ask) ≡ heading_of x → masks ws ≡ rows_after x rest
@@ -97,11 +104,11 @@ module _ {t : List ℕ} {s : code.Sheet} {rest : List ℕ} (ws : List ℕ) (room
           (subst (λ (g : List ℕ). WritesList g ask before after old out r) front w) in
           (list.written, list.slots)
 
-pub answer_refused : {t rest after before old out : List ℕ} {r : ℕ} {f : Refusal} → length rest ≡ most_vertices → ReadSheet t rest after (Err f)
+pub answer_refused : {t before old out : List ℕ} {r : ℕ} (f : Refusal) → refusal f ≡ heading_of (reading t most_vertices)
     → Writes (refusal_text (number_of f) (value_of f)) old out r → Answers t before before old out r
 unfolding answer_text slots_left
-answer_refused {t} {rest} {before = before} {old} {out} {r} {f} room h w =
-    let a = rw room at (go (reading t (length rest)) h.reply) in
+answer_refused {t} {before} {old} {out} {r} f e w =
+    let a = go (reading t most_vertices) e in
     record { written = a.0; slots = a.1 }
   where
     go : (x : Reply Sheet) → refusal f ≡ heading_of x → Writes (reply_text (answer_of x (length before))) old out r × (before ≡ slots_of x before)

@@ -79,11 +79,11 @@ pub record FirstLine (t : List ℕ) (at : ℕ) (r : ToldLine) : Type 0 where
   pub upto : r.next ≤ length t
   pub rest : drop r.next t ≡ drop (suc (line_length (drop at t))) (drop at t)
 
--- the next line, where one is left
+-- the next line, where one is left; where none is, the reader stays where it is
 pub record GivesLine (r : Reader) (l : Option ToldLine) (r' : Reader) : Type 0 where
   pub text : r'.text.now ≡ r.text.now
   pub line :
-      MatchOption l (length r.text.now ≤ r.at) (λ x. (r.at < length r.text.now) × FirstLine r.text.now r.at x × (r'.at ≡ x.next))
+      MatchOption l ((length r.text.now ≤ r.at) × (r'.at ≡ r.at)) (λ x. (r.at < length r.text.now) × FirstLine r.text.now r.at x × (r'.at ≡ x.next))
 
 -- ---- from line to line
 

@@ -30,7 +30,7 @@ pub fn common(rows: &[u64], s: Set) -> Set
 }
 
 // The candidates that some vertex of m, the pivot, is not adjacent to. The pivot is one with the fewest, or the first with `few` at most.
-fn pivot(rows: &[u64], c: Set, m: Set, few: usize) -> Set
+pub(crate) fn pivot(rows: &[u64], c: Set, m: Set, few: usize) -> Set
     requires { Pickable (masks rows.now) (mask m) }
     ensures { Covering (masks rows.now) (mask c) (mask m) (mask result) }
 {
@@ -97,7 +97,7 @@ fn take<W: Wanted>(rows: &[u64], want: W, s: Set, c: Set, m: Set, slots: &mut Sl
     if second.rest(v).is_empty() {
         return end_pair(rows, want, s, u, v, m, slots);
     }
-    let next = pivot(rows, c, m, want.good_enough());
+    let next = want.agenda(rows, c, m);
     let others = c.minus(next);
     sweep(rows, want, s, others, m, next, slots)
 }

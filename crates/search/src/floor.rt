@@ -89,8 +89,12 @@ impl Wanted for Floor {
         1 - self.silent.indicator(v) < self.need
     }
 
-    // Where many members are needed most branches are cut, and a pivot that leaves few candidates is good enough.
-    fn good_enough(self) -> usize {
-        if 8 < self.need { 4 } else { 1 }
+    // Where many members are needed most branches are cut, and a pivot that leaves few candidates is good enough. There are two calls, so that each number is
+    // known to the loop that it ends.
+    fn agenda(self, rows: &[u64], c: Set, m: Set) -> Set {
+        if 8 < self.need {
+            return crate::cliques::pivot(rows, c, m, 4);
+        }
+        crate::cliques::pivot(rows, c, m, 1)
     }
 }

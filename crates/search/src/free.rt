@@ -41,7 +41,7 @@ impl Wanted for Free {
 
     ghost lacking = { λ _. Unit {0} };
 
-    // Most calls have at most two candidates, which need no pivot.
+    // Most calls have at most two candidates, which need no pivot: here none or one is done with, and two are in `cliques::take`.
     fn settle(self, rows: &[u64], s: Set, c: Set, m: Set, slots: &mut Slots) -> bool {
         if c.is_empty() {
             end(s, m, slots);
@@ -63,7 +63,7 @@ impl Wanted for Free {
         false
     }
 
-    fn good_enough(self) -> usize {
-        1
+    fn agenda(self, rows: &[u64], c: Set, m: Set) -> Set {
+        crate::cliques::pivot(rows, c, m, 1)
     }
 }

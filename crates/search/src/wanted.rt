@@ -4,7 +4,8 @@ ghost use Rattle.std.specs.Prelude.{◌≡◌, ℕ, ◌+◌, ◌-◌, ◌<◌, �
 ghost use Rattle.sets.specs.Set.{bit, size, with, minus};
 ghost use Rattle.sets.specs.Words.{width, mask, masks};
 ghost use Rattle.judging.specs.Request.{request};
-ghost use Rattle.search.specs.Cliques.{Taking};
+ghost use Rattle.search.specs.Choice.{Pickable};
+ghost use Rattle.search.specs.Cliques.{Covering, Taking};
 ghost use Rattle.search.specs.Filling.{FillsFound};
 
 use crate::slots::Slots;
@@ -39,6 +40,8 @@ pub(crate) trait Wanted: Copy {
         ensures { (s : ℕ) → (result ≡ true → size (minus s (silent self)) + (1 - bit (silent self) v) < least self s)
             × (result ≡ false → least self s ≤ size (minus s (silent self)) + (1 - bit (silent self) v)) };
 
-    // How few candidates a pivot may leave to be good enough. Any number is right.
-    fn good_enough(self) -> usize;
+    // The candidates to take one after the other: those that a pivot is not adjacent to. Any pivot is right.
+    fn agenda(self, rows: &[u64], c: Set, m: Set) -> Set
+        requires { Pickable (masks rows.now) (mask m) }
+        ensures { Covering (masks rows.now) (mask c) (mask m) (mask result) };
 }

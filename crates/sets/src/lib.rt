@@ -1,5 +1,6 @@
 // Sets of vertices, and every operation on one. This is the only crate with bit arithmetic: the others
-// touch a set through its methods, and their contracts speak of its mask.
+// touch a set through its methods, and their contracts speak of its mask. What ==, <, <=, min and max
+// of two sets say of their masks are the laws same_mask, lt_mask, le_mask, min_mask and max_mask.
 #![tactic(auto)]
 
 ghost use Rattle.std.specs.Prelude.{◌≡◌, ◌^◌, ◌*◌, ◌<◌, ◌≤◌, min, max, cond, eqb, ltb, length, set};

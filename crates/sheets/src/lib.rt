@@ -2,11 +2,13 @@
 // A graph with an isolated vertex has none: it is declined.
 #![tactic(auto)]
 
-ghost use Rattle.std.specs.Prelude.{◌≤◌, length};
+ghost use Rattle.std.specs.Prelude.{◌≡◌, ◌≤◌, length};
 ghost use Rattle.sets.specs.Words.{width, masks};
 ghost use Rattle.judging.specs.Request.{asked};
-ghost use Rattle.sheets.specs.Sheet.{sheet_causes};
-ghost use Rattle.sheets.specs.Setting.{Judged, SaysSheet};
+ghost use Rattle.judging.specs.Refusal.{first_cause};
+ghost use Rattle.judging.specs.Calls.{passed};
+ghost use Rattle.sheets.specs.Sheet.{heading_causes, sheet_causes};
+ghost use Rattle.sheets.specs.Setting.{Judged, SaysFields, SaysSheet};
 ghost use Rattle.sheets.specs.Calls.{ReadSheet, WroteSheet};
 
 mod body;
@@ -15,6 +17,7 @@ mod heading;
 mod isolated;
 pub mod lines;
 
+use heading::Heading;
 use judging::{Refusal, Request, check};
 
 // What is returned of a sheet that is read: how many vertices its graph has, and its request.
@@ -24,12 +27,11 @@ pub struct Sheet {
     pub request: Request,
 }
 
-// Reads the text as a sheet, and stores its rows in the first of the table. Refusals: 8 at line 1, 1, 2, 3, 8, 7, 4, 5, 14; one may leave some rows stored.
-fn read_text(text: &[u8], table: &mut [u64]) -> Result<Sheet, Refusal>
-    requires { width ≤ length (masks table.old) }
+// Reads the text as a sheet whose line 1 has passed, and stores its rows in the first of the table. Refusals: 8, 7, 4, 5, 14; one may leave some rows stored.
+fn read_text(text: &[u8], heading: Heading, table: &mut [u64]) -> Result<Sheet, Refusal>
+    requires { SaysFields text.now heading × (passed ≡ first_cause (heading_causes text.now) passed) × (width ≤ length (masks table.old)) }
     ensures { Judged (sheet_causes text.now) (SaysSheet text.now (masks table.new)) result }
 {
-    let heading = heading::read_heading(text)?;
     let end = sets::offset(table, heading.vertices);
     let silent = body::read_body(&text[heading::HEADING_LENGTH..], &mut table[..end])?;
     Ok(Sheet {
@@ -49,9 +51,11 @@ fn read_text(text: &[u8], table: &mut [u64]) -> Result<Sheet, Refusal>
 pub fn read_sheet(text: &[u8], rows: &mut [u64]) -> Result<Sheet, Refusal>
     ensures { ReadSheet text.now (masks rows.old) (masks rows.new) result }
 {
-    // The rows are read into a table of the call's own: a later line, or the room, may be refused.
+    let heading = heading::read_heading(text)?;
+    // The rows are read into a table of the call's own: a later line, or the room, may be refused. It is made once line 1 has passed, since to empty it takes
+    // as long as to refuse line 1.
     let mut table = [0u64; sets::TABLE];
-    let sheet = read_text(text, &mut table)?;
+    let sheet = read_text(text, heading, &mut table)?;
     if sets::count(rows) < sheet.vertices {
         return Err(Refusal::Room(sheet.vertices));
     }

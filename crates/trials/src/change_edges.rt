@@ -22,6 +22,7 @@ fn opposite(change: Change) -> Change {
 }
 
 // A change that leads to the sets of some masks, and the change back to those of others.
+#[inline(never)]
 pub fn there_and_back(
     cases: &mut Tally<impl Print>,
     mut book: Book,
@@ -29,8 +30,11 @@ pub fn there_and_back(
     there: &[u64],
     back: &[u64],
 ) -> io::Result<()> {
-    with_change(cases, &mut book, to, &mut Memory::of_masks(there))?;
-    with_change(cases, &mut book, opposite(to), &mut Memory::of_masks(back))
+    let mut memory = Memory::new();
+    memory.expected.set_masks(there);
+    with_change(cases, &mut book, to, &mut memory)?;
+    memory.expected.set_masks(back);
+    with_change(cases, &mut book, opposite(to), &mut memory)
 }
 
 // Graphs of two to five vertices.
@@ -159,12 +163,14 @@ fn at_limit(cases: &mut Tally<impl Print>) -> io::Result<()> {
 }
 
 // The list of the ring of five has five sets, and four with the chord from 0 to 2. Does the change leave the last one of the old list, and the slot behind it?
+#[inline(never)]
 fn opened() -> bool {
     let mut book = Book::new(&Graph::ring(), ask(2, 3));
     let mut slots = [GARBAGE; 6 * sets::WORDS];
     let opened = search::list(book.graph.rows(), book.request, &mut slots);
     let changed = book.change(joined(0, 2), &mut slots);
-    let memory = Memory::of_masks(&[7, 14, 19, 29, 28]);
+    let mut memory = Memory::new();
+    memory.expected.set_masks(&[7, 14, 19, 29, 28]);
     opened == Ok(5) && changed == Ok(4) && words::holds(&slots, memory.expected.sets())
 }
 
@@ -261,6 +267,7 @@ fn two_parts(cases: &mut Tally<impl Print>, memory: &mut Memory) -> io::Result<(
 }
 
 // Long lists: up to as many sets as the program has slots, and more.
+#[inline(never)]
 pub fn many(cases: &mut Tally<impl Print>) -> io::Result<()> {
     let mut memory = Memory::new();
     two_parts(cases, &mut memory)?;

@@ -7,7 +7,7 @@ use crate::memory::{EXTRA_SLOTS, Memory};
 use crate::requests::{ask, ask_silent};
 use crate::tally::Tally;
 use crate::words::GARBAGE;
-use crate::{all_sets, graphs, silent, words};
+use crate::{all_sets, graphs, refusals, silent, words};
 use judging::check::MOST_SLACK;
 use judging::{Refusal, Request};
 use std::io;
@@ -90,7 +90,9 @@ impl Book {
         let before = self.graph;
         slots.fill(GARBAGE);
         let found = self.change(change, slots);
-        found == Err(refusal) && self.graph == before && words::all_are(slots, GARBAGE)
+        refusals::is(found.err(), Some(refusal))
+            && self.graph == before
+            && words::all_are(slots, GARBAGE)
     }
 
     // Is the change made, or refused where there are fewer slots than sets of the changed graph?

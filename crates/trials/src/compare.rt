@@ -4,7 +4,7 @@ use crate::memory::{EXTRA_SLOTS, Memory};
 use crate::requests::ask_silent;
 use crate::tally::Tally;
 use crate::words::GARBAGE;
-use crate::{all_sets, words};
+use crate::{all_sets, refusals, words};
 use judging::check::MOST_SLACK;
 use judging::{Refusal, Request};
 use std::io;
@@ -29,7 +29,7 @@ fn agrees(rows: &[u64], request: Request, expected: &[u64], slots: &mut [u64]) -
     let found = search::list(rows, request, slots);
     let m = sets::count(expected);
     if sets::count(slots) < m {
-        return found == Err(Refusal::Slots(m)) && words::all_are(slots, 0);
+        return refusals::is(found.err(), Some(Refusal::Slots(m))) && words::all_are(slots, 0);
     }
     found == Ok(m) && words::holds(slots, expected)
 }

@@ -1,8 +1,8 @@
 // Edges of the call that finds the largest k-plex, and its answers beside those of trying all sets.
-use crate::all_sets;
 use crate::graphs::{Family, Graph};
 use crate::requests::ask;
 use crate::tally::Tally;
+use crate::{all_sets, refusals};
 use judging::Refusal;
 use judging::check::MOST_SLACK;
 use sets::Set;
@@ -17,7 +17,7 @@ pub const LOWEST_4_AND_LAST: u64 = 15 | (1 << 63);
 // Is this the answer where the vertices of a set are forced?
 fn gives(graph: &Graph, k: usize, forced: Set, want: Result<Set, Refusal>) -> bool {
     let found = largest::largest(graph.rows(), k, forced);
-    found == want
+    found == want && refusals::is(found.err(), want.err())
 }
 
 // Is it the set of this size and this mask? The vertices of the mask `forced` are.

@@ -2,8 +2,8 @@
 use crate::graphs::{Family, Graph};
 use crate::requests::{ask, ask_silent};
 use crate::tally::Tally;
-use crate::words;
 use crate::words::GARBAGE;
+use crate::{refusals, words};
 use judging::{Refusal, Request};
 use sets::Set;
 
@@ -21,7 +21,7 @@ pub fn answers(
     } else {
         GARBAGE
     };
-    found == want && words::all_are(slots, after)
+    found == want && refusals::is(found.err(), want.err()) && words::all_are(slots, after)
 }
 
 // The same with four slots.

@@ -1,8 +1,8 @@
 // Edges of the call that tells how loose a set is, and its answers beside those of the definition.
-use crate::all_sets;
 use crate::graphs::{Family, Graph};
 use crate::requests::ask;
 use crate::tally::Tally;
+use crate::{all_sets, refusals};
 use judging::Refusal;
 use sets::Set;
 use std::io;
@@ -10,7 +10,7 @@ use std::io;
 // Is this the answer for the set of the mask?
 fn gives(graph: &Graph, mask: u64, want: Result<usize, Refusal>) -> bool {
     let found = judging::looseness(graph.rows(), Set::from(mask));
-    found == want
+    found == want && refusals::is(found.err(), want.err())
 }
 
 // Is the set so loose?

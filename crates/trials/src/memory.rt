@@ -58,6 +58,7 @@ impl List {
     }
 }
 
+// It lies on the stack. Where a caller makes several calls that need one, these are not inlined: its frame would hold one too, unused.
 #[derive(Drop)]
 pub struct Memory {
     pub expected: List,
@@ -74,12 +75,5 @@ impl Memory {
             expected,
             slots: [0; SLOT_WORDS],
         }
-    }
-
-    // The sets of these masks are expected.
-    pub fn of_masks(masks: &[u64]) -> Memory {
-        let mut memory = Memory::new();
-        memory.expected.set_masks(masks);
-        memory
     }
 }

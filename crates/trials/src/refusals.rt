@@ -4,18 +4,51 @@ use crate::tally::Tally;
 use judging::Refusal;
 use sets::Set;
 
+// Document 01's number and value of a refusal, written out apart from what the library says of it.
+fn numbered(refusal: Refusal) -> (usize, usize) {
+    match refusal {
+        Refusal::Vertices => (1, 0),
+        Refusal::Slack => (2, 0),
+        Refusal::Floor => (3, 0),
+        Refusal::Row(a) => (4, a),
+        Refusal::OneWay(a) => (5, a),
+        Refusal::Slots(m) => (6, m),
+        Refusal::Outside => (7, 0),
+        Refusal::Line(l) => (8, l),
+        Refusal::Room(n) => (9, n),
+        Refusal::Bound => (10, 0),
+        Refusal::Forced => (11, 0),
+        Refusal::Loop => (12, 0),
+        Refusal::Unchanged => (13, 0),
+        Refusal::Isolated(a) => (14, a),
+        Refusal::DimacsLine(l) => (15, l),
+        Refusal::EdgeCount => (16, 0),
+    }
+}
+
+// Does the library say so too?
+fn is_numbered(refusal: Refusal) -> bool {
+    let (number, value) = numbered(refusal);
+    refusal.number() == number && refusal.value() == value
+}
+
+// Is it the refusal that is wanted, or none as wanted, with document 01's number and value?
+pub fn is(found: Option<Refusal>, want: Option<Refusal>) -> bool {
+    found == want && found.is_none_or(is_numbered)
+}
+
 // Is the set of the mask refused so, or with none judged, as a maximal plex?
 fn judge(graph: &Graph, k: usize, mask: u64, want: Option<Refusal>) -> bool {
     let found = judging::judge_maximal(graph.rows(), k, Set::from(mask));
-    found.err() == want
+    is(found.err(), want)
 }
 
 fn core(graph: &Graph, k: usize, q: usize, want: Option<Refusal>) -> bool {
-    bounds::find_core(graph.rows(), k, q).err() == want
+    is(bounds::find_core(graph.rows(), k, q).err(), want)
 }
 
 fn reach(graph: &Graph, v: usize, want: Option<Refusal>) -> bool {
-    bounds::find_reach(graph.rows(), v).err() == want
+    is(bounds::find_reach(graph.rows(), v).err(), want)
 }
 
 // Do both bounds answer so for the sets of the masks s and c?
@@ -24,7 +57,7 @@ fn bound(graph: &Graph, k: usize, s: u64, c: u64, v: usize, want: Option<Refusal
     let free = Set::from(c);
     let first = bounds::first_bound(graph.rows(), k, held, free, v);
     let second = bounds::second_bound(graph.rows(), k, held, free, v);
-    first.err() == want && second.err() == want
+    is(first.err(), want) && is(second.err(), want)
 }
 
 // No row.

@@ -4,7 +4,7 @@ use crate::requests::{ask, ask_silent};
 use crate::tally::Tally;
 use crate::texts::{MOST_TEXT, OLD, Text};
 use crate::words::GARBAGE;
-use crate::{isolated_sheets, words};
+use crate::{isolated_sheets, refusals, words};
 use judging::{Refusal, Request};
 use sheets::Sheet;
 
@@ -25,7 +25,9 @@ pub fn reads(text: &Text, room: usize, want: Result<Sheet, Refusal>) -> bool {
     let rows = words::front_mut(&mut memory, room);
     let found = sheets::read_sheet(text.bytes(), rows);
     let from = want.map_or(0, |sheet| sheet.vertices);
-    found == want && words::all_are(words::behind(rows, from), GARBAGE)
+    found == want
+        && refusals::is(found.err(), want.err())
+        && words::all_are(words::behind(rows, from), GARBAGE)
 }
 
 // Is it refused so?
@@ -160,7 +162,9 @@ pub fn writes(graph: &Graph, request: Request, room: usize, want: Result<usize, 
     };
     let found = sheets::write_sheet(graph.rows(), request, text);
     let from = want.unwrap_or(0);
-    found == want && text.iter().skip(from).all(|b| *b == OLD)
+    found == want
+        && refusals::is(found.err(), want.err())
+        && text.iter().skip(from).all(|b| *b == OLD)
 }
 
 // Is it refused so, with one byte too few for five vertices?

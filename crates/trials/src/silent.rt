@@ -21,7 +21,9 @@ pub fn lists(
     request: Request,
     masks: &[u64],
 ) -> io::Result<()> {
-    compare::with_request(cases, graph, request, &mut Memory::of_masks(masks))
+    let mut memory = Memory::new();
+    memory.expected.set_masks(masks);
+    compare::with_request(cases, graph, request, &mut memory)
 }
 
 // Five vertices in a ring: at slack 2 three side by side.
@@ -168,6 +170,7 @@ pub fn of_variant(graph: &Graph, variant: usize) -> u64 {
 }
 
 // One graph with some silent sets: every slack, and the floors up to one above n, where such a floor is allowed: no set is so large.
+#[inline(never)]
 pub fn beside_all_sets(cases: &mut Tally<impl Print>, graph: &Graph) -> io::Result<()> {
     let mut memory = Memory::new();
     let most = all_sets::count_masks(graph.rows());

@@ -6,14 +6,17 @@ use Rattle.std.proofs.Common.{le_of_eq}
 use Rattle.sets.specs.Words.Masks.{offset_fits}
 use Rattle.judging.specs.CallLaws.{handed_on}
 use Rattle.sheets.specs.BodyLaws.{table_rows}
-use Rattle.sheets.specs.ReadLaws.{sheet_refused, room_refused, read_end, rows_read}
+use Rattle.sheets.specs.ReadLaws.{heading_told, sheet_refused, room_refused, read_end, rows_read}
 use Rattle.sheets.proofs.read_sheet.Goals as goal
 
+pub returns-in_err-heading : goal.returns-in_err-heading
+returns-in_err-heading c = rw (handed_on _ c.from_residual.ensures.1) (sheet_refused (heading_told _ _ c.in_err-heading.ensures))
+
 pub read_text-requires : goal.read_text-requires
-read_text-requires c = le_of_eq (sym (table_rows _ refl))
+read_text-requires c = (c.in_ok-heading.ensures.0, c.in_ok-heading.ensures.1, le_of_eq (sym (table_rows _ refl)))
 
 pub returns-in_err-sheet : goal.returns-in_err-sheet
-returns-in_err-sheet c = rw (handed_on _ c.from_residual.ensures.1) (sheet_refused c.in_err-sheet.ensures)
+returns-in_err-sheet c = rw (handed_on _ c.from_residual-in_err-sheet.ensures.1) (sheet_refused c.in_err-sheet.ensures)
 
 pub returns-then-count-sheet : goal.returns-then-count-sheet
 returns-then-count-sheet c = room_refused _ (sym c.in_ok-sheet.ensures.1) c.in_ok-sheet.ensures.0.vertices (omega (arith, c.count.ensures))

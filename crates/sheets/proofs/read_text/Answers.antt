@@ -1,40 +1,37 @@
--- Line 1 decides first; once it has passed, what is below it, whose rows are read into the first of the table.
+-- Line 1 has passed: what is below it decides, whose rows are read into the first of the table.
 use mathlib.Core.Path.{sym}
 use lib.Seq.{length-take-le}
 use Rattle.judging.specs.CallLaws.{handed_on}
 use Rattle.sheets.proofs.JudgedLaws.{heading_fits}
-use Rattle.sheets.specs.ReadLaws.{heading_told, vertices_fit, table_end, table_sized, body_told, sheet_said}
+use Rattle.sheets.specs.ReadLaws.{vertices_fit, table_end, table_sized, body_told, sheet_said}
 use Rattle.sheets.proofs.read_text.Goals as goal
 
-pub returns-in_err-heading : goal.returns-in_err-heading
-returns-in_err-heading c = rw (handed_on _ c.from_residual.ensures.1) (heading_told _ _ c.in_err-heading.ensures)
-
 pub offset-end-requires : goal.offset-end-requires
-offset-end-requires c = vertices_fit _ _ c.in_ok-heading.ensures.0 c.in_ok-heading.ensures.1 c.requires
+offset-end-requires c = vertices_fit _ _ c.requires.0 c.requires.1 c.requires.2
 
 pub slice_bounds-read_body-count : goal.slice_bounds-read_body-count
-slice_bounds-read_body-count c = heading_fits _ (sym c.in_ok-heading.ensures.1)
+slice_bounds-read_body-count c = heading_fits _ (sym c.requires.1)
 
 pub slice_bounds-read_body-start : goal.slice_bounds-read_body-start
-slice_bounds-read_body-start c = heading_fits _ (sym c.in_ok-heading.ensures.1)
+slice_bounds-read_body-start c = heading_fits _ (sym c.requires.1)
 
 pub slice_bounds-read_body-end-2 : goal.slice_bounds-read_body-end-2
-slice_bounds-read_body-end-2 c = table_end _ _ c.in_ok-heading.ensures.0 c.in_ok-heading.ensures.1 c.requires c.offset-end.ensures
+slice_bounds-read_body-end-2 c = table_end _ _ c.requires.0 c.requires.1 c.requires.2 c.offset-end.ensures
 
 pub slice_bounds-read_body-end-3 : goal.slice_bounds-read_body-end-3
 slice_bounds-read_body-end-3 c =
-    sym (length-take-le _ _ (table_end _ _ c.in_ok-heading.ensures.0 c.in_ok-heading.ensures.1 c.requires c.offset-end.ensures))
+    sym (length-take-le _ _ (table_end _ _ c.requires.0 c.requires.1 c.requires.2 c.offset-end.ensures))
 
 pub read_body-requires : goal.read_body-requires
-read_body-requires c = table_sized _ _ c.in_ok-heading.ensures.0 c.in_ok-heading.ensures.1 c.requires c.offset-end.ensures
+read_body-requires c = table_sized _ _ c.requires.0 c.requires.1 c.requires.2 c.offset-end.ensures
 
 pub returns-in_err-silent : goal.returns-in_err-silent
 returns-in_err-silent c =
-    rw (handed_on _ c.from_residual-in_err-silent.ensures.1)
-    (body_told _ _ c.in_ok-heading.ensures.0 c.in_ok-heading.ensures.1 c.requires c.offset-end.ensures c.in_err-silent.ensures)
+    rw (handed_on _ c.from_residual.ensures.1)
+    (body_told _ _ c.requires.0 c.requires.1 c.requires.2 c.offset-end.ensures c.in_err-silent.ensures)
 
 pub returns : goal.returns
 returns c = (
-  sheet_said _ _ c.in_ok-heading.ensures.0 c.in_ok-heading.ensures.1 c.requires c.offset-end.ensures _ c.read_body.auto.rows c.in_ok-silent.ensures.0,
-  body_told _ _ c.in_ok-heading.ensures.0 c.in_ok-heading.ensures.1 c.requires c.offset-end.ensures c.in_ok-silent.ensures.1,
+  sheet_said _ _ c.requires.0 c.requires.1 c.requires.2 c.offset-end.ensures _ c.read_body.auto.rows c.in_ok-silent.ensures.0,
+  body_told _ _ c.requires.0 c.requires.1 c.requires.2 c.offset-end.ensures c.in_ok-silent.ensures.1,
 )

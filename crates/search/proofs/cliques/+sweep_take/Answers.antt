@@ -71,17 +71,17 @@ take-returns-then-is_empty-clause-fills g t c =
     rw pair.0 (rw (c.settle.ensures.left c.if-settle.false).0 at c.end_pair.ensures.fills)
 
 -- more than two are left
-pub take-pivot-next-requires : goal.take-pivot-next-requires
-take-pivot-next-requires g t c = take_pickable c.requires (some_candidate (c.settle.ensures.left c.if-settle.false).2)
+pub take-agenda-next-requires : goal.take-agenda-next-requires
+take-agenda-next-requires g t c = take_pickable c.requires (some_candidate (c.settle.ensures.left c.if-settle.false).2)
 
 pub take-sweep-requires : goal.take-sweep-requires
 take-sweep-requires g t c κs h = (
-  omega (arith, cover_candidates c.requires c.pivot-next.ensures c.minus-others.ensures, c.decreases),
-  (h, (cover_sweeping c.requires c.pivot-next.ensures c.minus-others.ensures, (c.settle.ensures.left c.if-settle.false).1)),
+  omega (arith, cover_candidates c.requires c.agenda-next.ensures c.minus-others.ensures, c.decreases),
+  (h, (cover_sweeping c.requires c.agenda-next.ensures c.minus-others.ensures, (c.settle.ensures.left c.if-settle.false).1)),
 )
 
 pub take-returns-clause-fills : goal.take-returns-clause-fills
 take-returns-clause-fills g t c =
-    cover_adds c.requires c.pivot-next.ensures c.minus-others.ensures
+    cover_adds c.requires c.agenda-next.ensures c.minus-others.ensures
     (request 1 (g.W.Wanted.least c.args.want (mask c.args.s)) (g.W.Wanted.silent c.args.want)) refl
     (rw (c.settle.ensures.left c.if-settle.false).0 at c.sweep.ensures.fills)
