@@ -64,10 +64,17 @@ fn lowest_bad_row(rows: &[u64]) -> Option<usize>
     requires { Sized (masks rows.now) }
     ensures { FindsRow (bad_row (masks rows.now)) (length (masks rows.now)) result }
 {
-    for a in 0..sets::count(rows) {
+    let n = sets::count(rows);
+    // answered behind the loop: within it, the compiler sets the numbers of the refusal anew for each row
+    let mut lowest = n;
+    for a in 0..n {
         if is_bad_row(rows, a) {
-            return Some(a);
+            lowest = a;
+            break;
         }
+    }
+    if lowest < n {
+        return Some(lowest);
     }
     None
 }
